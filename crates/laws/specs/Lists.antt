@@ -1,0 +1,143 @@
+-- Laws of ranges and of tests over lists, as loops meet them: nothing is left, or one more.
+use mathlib.Core.Path.{_≡_, refl, sym, ap, _∙_}
+use mathlib.Core.Logic.{_⊎_, inl, inr}
+use mathlib.Core.Bool.{Bool, true, false, cond, not, _&&_, _||_, true≢false}
+use mathlib.Core.List.{List, [], _∷_, List·Memᴰ, List·Memᴰ·head, List·Memᴰ·tail, List·Memᴰ·cases-cons, List·Memᴰ·not-nil}
+use Prim.Native.Nat.{ℕ, zero, suc, _+_, _-_, _≤_, _<_}
+use native.Mathlib.Omega.{arith}
+use native.Mathlib.Numerals.{add-one}
+use lib.ListN.{length}
+use lib.Dec.{eqb}
+use borrow.Author.Tests.{eqb-true, eqb-false, eq-eqb}
+use Rattle.rules.specs.Tests.{and-left, and-right}
+use Rattle.rules.specs.Ranges.{from, block, each, has, count, first}
+
+-- ---- ranges
+
+pub block-past : (i hi : ℕ) → hi ≤ i → block i hi ≡ []
+unfolding block from
+block-past i hi p = let z : hi - i ≡ 0 = omega arith in rw z
+
+pub block-step : (i hi : ℕ) → i < hi → block i hi ≡ i ∷ block (i + 1) hi
+unfolding block from
+block-step i hi p = let z : hi - i ≡ suc (hi - (i + 1)) = omega arith in rw (z, add-one i)
+
+from-mem : (n lo x : ℕ) → lo ≤ x → x < lo + n → List·Memᴰ x (from lo n)
+unfolding from
+from-mem zero lo x a b = absurd (omega arith)
+from-mem (suc n) lo x a b = go (eqb x lo) refl (from-mem n (suc lo) x)
+  where
+    go : (t : Bool) → eqb x lo ≡ t → (suc lo ≤ x → x < suc lo + n → List·Memᴰ x (from (suc lo) n)) → List·Memᴰ x (lo ∷ from (suc lo) n)
+    go true e ih = List·Memᴰ·head (eqb-true x lo e)
+    go false e ih = List·Memᴰ·tail (ih (let n = eqb-false x lo e in omega arith) (omega arith))
+
+mem-from : (n lo x : ℕ) → List·Memᴰ x (from lo n) → (lo ≤ x) × (x < lo + n)
+unfolding from
+mem-from zero lo x k = absurd (List·Memᴰ·not-nil k)
+mem-from (suc n) lo x k = go (mem-from n (suc lo) x) (List·Memᴰ·cases-cons k)
+  where
+    go : (List·Memᴰ x (from (suc lo) n) → (suc lo ≤ x) × (x < suc lo + n)) → (x ≡ lo) ⊎ List·Memᴰ x (from (suc lo) n) → (lo ≤ x) × (x < lo + suc n)
+    go ih (inl e) = (omega arith, omega arith)
+    go ih (inr j) = let q = ih j in (omega (arith, q .0), omega (arith, q .1))
+
+pub block-mem : (lo hi x : ℕ) → lo ≤ x → x < hi → List·Memᴰ x (block lo hi)
+unfolding block
+block-mem lo hi x a b = from-mem (hi - lo) lo x a (omega arith)
+
+pub mem-block : (lo hi x : ℕ) → List·Memᴰ x (block lo hi) → (lo ≤ x) × (x < hi)
+unfolding block
+mem-block lo hi x k = let q = mem-from (hi - lo) lo x k in (q .0, omega (arith, q .0, q .1))
+
+-- ---- a test at each member
+
+pub each-true : (f : ℕ → Bool) (xs : List ℕ) → each f xs ≡ true → (x : ℕ) → List·Memᴰ x xs → f x ≡ true
+unfolding each
+each-true f [] e x m = absurd (List·Memᴰ·not-nil m)
+each-true f (y ∷ xs) e x m = go (each-true f xs (and-right (f y) (each f xs) e) x) (List·Memᴰ·cases-cons m)
+  where
+    go : (List·Memᴰ x xs → f x ≡ true) → (x ≡ y) ⊎ List·Memᴰ x xs → f x ≡ true
+    go ih (inl q) = ap f q ∙ and-left (f y) (each f xs) e
+    go ih (inr k) = ih k
+
+pub true-each : (f : ℕ → Bool) (xs : List ℕ) → ((x : ℕ) → List·Memᴰ x xs → f x ≡ true) → each f xs ≡ true
+unfolding each
+true-each f [] h = refl
+true-each f (y ∷ xs) h = rw (h y (List·Memᴰ·head refl)) (true-each f xs (λ x m. h x (List·Memᴰ·tail m)))
+
+-- what a loop over the range meets
+module _ (f : ℕ → Bool) (i hi : ℕ) where
+  pub each-past : hi ≤ i → each f (block i hi) ≡ true
+  unfolding each
+  each-past p = rw (block-past i hi p)
+
+  pub each-no : i < hi → f i ≡ false → each f (block i hi) ≡ false
+  unfolding each
+  each-no p q = rw (block-step i hi p, q)
+
+  pub each-yes : i < hi → f i ≡ true → each f (block i hi) ≡ each f (block (i + 1) hi)
+  unfolding each
+  each-yes p q = rw (block-step i hi p, q)
+
+-- the test of each passes at every place from lo to hi - 1
+pub each-block : (f : ℕ → Bool) (lo hi : ℕ) → each f (block lo hi) ≡ true → (i : ℕ) → lo ≤ i → i < hi → f i ≡ true
+each-block f lo hi e i a b = each-true f (block lo hi) e i (block-mem lo hi i a b)
+
+pub block-each : (f : ℕ → Bool) (lo hi : ℕ) → ((i : ℕ) → lo ≤ i → i < hi → f i ≡ true) → each f (block lo hi) ≡ true
+block-each f lo hi h = true-each f (block lo hi) (λ i k. let q = mem-block lo hi i k in h i (q .0) (q .1))
+
+-- ---- membership
+
+pub has-mem : (a : ℕ) (xs : List ℕ) → has a xs ≡ true → List·Memᴰ a xs
+unfolding has
+has-mem a [] e = absurd (true≢false (sym e))
+has-mem a (x ∷ xs) e = go (eqb a x) refl (has-mem a xs) e
+  where
+    go : (b : Bool) → eqb a x ≡ b → (has a xs ≡ true → List·Memᴰ a xs) → (b || has a xs) ≡ true → List·Memᴰ a (x ∷ xs)
+    go true q ih t = List·Memᴰ·head (eqb-true a x q)
+    go false q ih t = List·Memᴰ·tail (ih t)
+
+pub mem-has : (a : ℕ) (xs : List ℕ) → List·Memᴰ a xs → has a xs ≡ true
+unfolding has
+mem-has a [] m = absurd (List·Memᴰ·not-nil m)
+mem-has a (x ∷ xs) m = go (eqb a x) refl (mem-has a xs) (List·Memᴰ·cases-cons m)
+  where
+    go : (b : Bool) → eqb a x ≡ b → (List·Memᴰ a xs → has a xs ≡ true) → (a ≡ x) ⊎ List·Memᴰ a xs → (b || has a xs) ≡ true
+    go true q ih c = refl
+    go false q ih (inl e) = absurd (eqb-false a x q e)
+    go false q ih (inr k) = ih k
+
+-- ---- how many, and the first
+
+module _ (f : ℕ → Bool) (i hi : ℕ) where
+  pub count-past : hi ≤ i → count f (block i hi) ≡ 0
+  unfolding count
+  count-past p = rw (block-past i hi p)
+
+  pub count-yes : i < hi → f i ≡ true → count f (block i hi) ≡ 1 + count f (block (i + 1) hi)
+  unfolding count
+  count-yes p q = rw (block-step i hi p, q)
+
+  pub count-no : i < hi → f i ≡ false → count f (block i hi) ≡ count f (block (i + 1) hi)
+  unfolding count
+  count-no p q = rw (block-step i hi p, q) (omega arith)
+
+  pub first-past : (e : ℕ) → hi ≤ i → first f (block i hi) e ≡ e
+  unfolding first
+  first-past e p = rw (block-past i hi p)
+
+  pub first-here : (e : ℕ) → i < hi → f i ≡ true → first f (block i hi) e ≡ i
+  unfolding first
+  first-here e p q = rw (block-step i hi p, q)
+
+  pub first-step : (e : ℕ) → i < hi → f i ≡ false → first f (block i hi) e ≡ first f (block (i + 1) hi) e
+  unfolding first
+  first-step e p q = rw (block-step i hi p, q)
+
+pub count-le : (f : ℕ → Bool) (xs : List ℕ) → count f xs ≤ length xs
+unfolding count
+count-le f [] = omega arith
+count-le f (x ∷ xs) = go (f x) (count-le f xs)
+  where
+    go : (b : Bool) → count f xs ≤ length xs → cond b 1 0 + count f xs ≤ suc (length xs)
+    go true h = omega arith
+    go false h = omega arith

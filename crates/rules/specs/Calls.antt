@@ -1,0 +1,100 @@
+-- Start, allocate, load and store: what each answers and leaves, refusals included. `m` is what is lent before the call.
+-- The table of refusals, in the order of its numbers:
+--   1 layout: a wrong length, P, T or record            4 no object: the address is no object start
+--   2 shape: d > P - 1 or p > d                         5 index: index ≥ d
+--   3 collect first: n words don't fit in the open      6 bad reference: a value for a reference, neither 0 nor an
+--     page, and N < 3k + 2                                object start
+-- and for collect (Collect.antt) 7 unsound and 8 no room. Each definition below makes its checks in this order.
+use mathlib.Core.Bool.{Bool, cond, _&&_, _||_}
+use mathlib.Core.List.{List, [], _∷_}
+use Prim.Native.Nat.{ℕ, zero, suc, _+_, _*_, _-_}
+use lib.ListN.{length, set, replicate}
+use lib.Seq.{sets}
+use lib.Dec.{eqb, leb, ltb}
+use Rattle.rules.specs.declared.Record.{Record}
+use Rattle.rules.specs.declared.Found.{Found}
+use Rattle.rules.specs.declared.Found.the-variants.{Start, Inside, Nothing}
+use Rattle.rules.specs.Ranges.{at}
+use Rattle.rules.specs.Header.{headerOf, sizeOf, refsOf}
+use Rattle.rules.specs.Pages.{pageAtStart, lowestFree, pagesUsed}
+use Rattle.rules.specs.Lent.{Lent, isLaidOut, isValid}
+use Rattle.rules.specs.Walk.{isReference, lookUp, refusalOf}
+
+-- the refusal's number, 0 if accepted; the value; and what was lent, with the record, as the call leaves it
+pub record Outcome : Type 0 where
+  pub refusal : ℕ
+  pub value : ℕ
+  pub lent : Lent
+
+-- "A refused call returns its number, value 0 .. and the record it was given .., and every lent word, label, link .. stays
+-- the same."
+unfoldable pub refused : ℕ → Lent → Outcome
+refused e m = record { refusal = e; value = 0; lent = m }
+
+unfoldable pub accepted : ℕ → Lent → Outcome
+accepted v m = record { refusal = 0; value = v; lent = m }
+
+-- refused with number e, unless the test passes
+abbrev pub unless : Bool → ℕ → Lent → Outcome → Outcome
+unless ok e m go = cond ok go (refused e m)
+
+-- "Start zeroes heap, labels and links; current label 1, no open page." "start takes any record"
+unfoldable pub start : Lent → ℕ → ℕ → Outcome
+start m P₀ T =
+    let P = pageAtStart P₀ in
+    unless (isLaidOut m P T) 1 m
+    (accepted 0 (record {
+      heap = replicate (length (m .heap)) 0;
+      labels = replicate (length (m .labels)) 0;
+      links = replicate (length (m .links)) 0;
+      rec = record { page = P; pages = T; label = 1; opened = 0; fill = P };
+    }))
+
+-- "In the heap it writes the header and d zeros, and nothing else." The object is on page g, `f` words from its first
+unfoldable pub withObject : Lent → ℕ → ℕ → ℕ → ℕ → List ℕ → Lent
+withObject m g f d p labels = record {
+  heap = sets (m .heap) (g * m .rec .page + f) (headerOf d p ∷ replicate d 0);
+  labels = labels;
+  links = m .links;
+  rec = record { page = m .rec .page; pages = m .rec .pages; label = m .rec .label; opened = g; fill = f + (d + 1) };
+}
+
+-- "Allocate puts the object at fill if it fits. Otherwise it takes the lowest-numbered page (from 1) with label 0, labels
+-- it, and begins at its first word .. The answer is the address."
+unfoldable pub allocate : Lent → ℕ → ℕ → Outcome
+allocate m d p =
+    let r = m .rec in
+    let g = lowestFree (m .labels) 1 (r .pages) in
+    unless (isValid m) 1 m
+    (unless (leb d (r .page - 1) && leb p d) 2 m
+    (cond (leb (r .fill + (d + 1)) (r .page))
+    (accepted (r .opened * r .page + r .fill) (withObject m (r .opened) (r .fill) d p (m .labels)))
+    (unless (leb (3 * pagesUsed (m .labels) 1 (r .pages) + 2) (r .pages - 1)) 3 m
+    (accepted (g * r .page) (withObject m g 0 d p (set (m .labels) g (r .label)))))))
+
+-- what follows once the address is found to be an object start, with its header; else look-up's refusal
+abbrev pub onStart : Found → Lent → (ℕ → Outcome) → Outcome
+onStart (Start w) m go = go w
+onStart (Inside s) m go = refused (refusalOf (Inside s)) m
+onStart Nothing m go = refused (refusalOf Nothing) m
+
+-- "Load returns payload word i."
+unfoldable pub load : Lent → ℕ → ℕ → Outcome
+load m a i =
+    unless (isValid m) 1 m
+    (onStart (lookUp m a) m (λ w.
+    unless (ltb i (sizeOf w - 1)) 5 m
+    (accepted (at (m .heap) (a + 1 + i)) m)))
+
+-- "for i < p the value is checked (6), otherwise any number goes"
+unfoldable pub mayStore : Lent → ℕ → ℕ → ℕ → Bool
+mayStore m w i v = leb (refsOf w) i || isReference m v
+
+-- "Store writes it .. Start and store answer 0."
+unfoldable pub store : Lent → ℕ → ℕ → ℕ → Outcome
+store m a i v =
+    unless (isValid m) 1 m
+    (onStart (lookUp m a) m (λ w.
+    unless (ltb i (sizeOf w - 1)) 5 m
+    (unless (mayStore m w i v) 6 m
+    (accepted 0 (record { heap = set (m .heap) (a + 1 + i) v; labels = m .labels; links = m .links; rec = m .rec })))))

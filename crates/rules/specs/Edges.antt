@@ -1,0 +1,68 @@
+-- The starred edges of document 01: one table, and one theorem that antt computes. The program `edges` runs the same on the
+-- code.
+use mathlib.Core.Path.{_≡_, refl, ap, _∙_, sym}
+use mathlib.Core.Logic.{_⊎_, inl, inr}
+use mathlib.Core.Bool.{Bool, true, _&&_}
+use mathlib.Core.List.{List, [], _∷_, List·Memᴰ, List·Memᴰ·cases-cons, List·Memᴰ·not-nil}
+use Prim.Native.Nat.{ℕ}
+use lib.Dec.{eqb}
+use borrow.Author.Tests.{eqb-true}
+use Rattle.rules.specs.Tests.{and-left, and-right}
+use Rattle.rules.specs.Ranges.{from, block, has, count, first}
+use Rattle.rules.specs.Header.{headerOf}
+use Rattle.rules.specs.Pages.{isPageSize, pageAtStart, isShape, pageNamed, isFree, lowestFree, pagesUsed, pagesNeeded, pageNamedToC, pagesNeededToC}
+use Rattle.rules.specs.Lent.{Lent, isLaidOut, isLabel, isOpen, isValid}
+use Rattle.rules.specs.Calls.{refused, accepted, start, withObject, allocate}
+use Rattle.rules.specs.Examples.{fresh}
+
+-- P 8, T 6, so that N is 5, with k pages in use, each full
+unfoldable pub used1 : Lent
+used1 = allocate fresh 7 0 .lent
+
+unfoldable pub used2 : Lent
+used2 = allocate used1 7 0 .lent
+
+-- a row: what is asked, and the answer
+pub record Edge : Type 0 where
+  pub asked : ℕ
+  pub answer : ℕ
+
+abbrev pub edge : ℕ → ℕ → Edge
+edge a b = record { asked = a; answer = b }
+
+unfoldable pub edges : List Edge
+edges =
+    -- "Header for d 3, p 1: 262,147. For d 0, p 0: 65,537. For d 7, p 7: 524,303."
+    edge (headerOf 3 1) 262147 ∷ edge (headerOf 0 0) 65537 ∷ edge (headerOf 7 7) 524303
+    -- "P 8: d 7 accepted, d 8 refused 2. d 3, p 4 refused 2, also when 3 applies."
+    ∷ edge (allocate fresh 7 0 .refusal) 0 ∷ edge (allocate fresh 8 0 .refusal) 2
+    ∷ edge (allocate fresh 3 4 .refusal) 2 ∷ edge (allocate used2 3 4 .refusal) 2
+    -- "P 8, T 6: word 7 names none, 8 names page 1, 47 page 5, 48 none."
+    ∷ edge (pageNamedToC 7 8 6) 0 ∷ edge (pageNamedToC 8 8 6) 1 ∷ edge (pageNamedToC 47 8 6) 5 ∷ edge (pageNamedToC 48 8 6) 0
+    -- "Pages needed: k' 0 gives 0, 1 gives 1, 2 gives 3."
+    ∷ edge (pagesNeededToC 0) 0 ∷ edge (pagesNeededToC 1) 1 ∷ edge (pagesNeededToC 2) 3
+    -- "N 5, k 1: a new page is given. N 5, k 2: refused 3."
+    ∷ edge (allocate used1 7 0 .refusal) 0 ∷ edge (allocate used1 7 0 .value) 16 ∷ edge (allocate used2 7 0 .refusal) 3
+    ∷ []
+
+unfoldable hold : List Edge → Bool
+hold [] = true
+hold (e ∷ es) = eqb (e .asked) (e .answer) && hold es
+
+computed : hold edges ≡ true
+unfolding hold edges used1 used2 fresh from block has count first headerOf isPageSize pageAtStart isShape pageNamed isFree lowestFree pagesUsed pagesNeeded pageNamedToC pagesNeededToC isLaidOut isLabel isOpen isValid refused accepted start withObject allocate
+computed = refl
+
+row : (es : List Edge) → hold es ≡ true → (e : Edge) → List·Memᴰ e es → e .asked ≡ e .answer
+unfolding hold
+row [] h e k = absurd (List·Memᴰ·not-nil k)
+row (d ∷ es) h e k = go (row es (and-right (eqb (d .asked) (d .answer)) (hold es) h) e) (List·Memᴰ·cases-cons k)
+  where
+    go : (List·Memᴰ e es → e .asked ≡ e .answer) → (e ≡ d) ⊎ List·Memᴰ e es → e .asked ≡ e .answer
+    go ih (inl z) =
+        ap (λ (x : Edge). x .asked) z ∙ eqb-true _ _ (and-left _ (hold es) h) ∙ ap (λ (x : Edge). x .answer) (sym z)
+    go ih (inr z) = ih z
+
+-- each row of the table holds
+pub edges-hold : (e : Edge) → List·Memᴰ e edges → e .asked ≡ e .answer
+edges-hold = row edges computed

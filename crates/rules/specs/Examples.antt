@@ -1,0 +1,106 @@
+-- The definitions are tried: antt computes document 01's session, collection by collection, and a handful of small cases.
+-- Everything here is closed, and every proof is refl: both sides compute to one thing.
+use mathlib.Core.Path.{_≡_, refl}
+use mathlib.Core.List.{List, [], _∷_}
+use Prim.Native.Nat.{ℕ}
+use lib.ListN.{take, drop, replicate}
+use Rattle.rules.specs.Ranges.{at, from, block, each, has, count, first}
+use Rattle.rules.specs.Header.{headerOf, sizeOf, refsOf, isHeader}
+use Rattle.rules.specs.Pages.{isPageSize, pageAtStart, isShape, pageNamed, pagesNamed, isFree, lowestFree, pagesUsed, pagesUnhinted, pagesNeeded, otherLabel}
+use Rattle.rules.specs.Lent.{Lent, isLaidOut, isLabel, isOpen, isValid}
+use Rattle.rules.specs.Walk.{walk, behind, starts, stop, isInUse, isStart, isReference, landing, lookUp}
+use Rattle.rules.specs.Sound.{isBlank, refsGood, isUsedSound, isPageSound, isFillSound, isSound}
+use Rattle.rules.specs.Calls.{Outcome, refused, accepted, start, withObject, allocate, load, mayStore, store}
+use Rattle.rules.specs.Collection.{hintPage, hintPages, takePage, withRoom, top, put, copyObject, forward, forwardRoots, sweepReference, sweepReferences, sweepPage, sweepQueue, freedLabels, freedHeap, planOf, begun, afterHints, afterRoots, afterSweep, Collection, plainly, collection}
+use Rattle.rules.specs.Collect.{unhinted, hasRoom, refusalOfCollect, CollectOutcome, refusedCollect, acceptedCollect, collect}
+
+-- P 8, T 6, on memory that held something else
+unfoldable pub fresh : Lent
+fresh = start (record { heap = replicate 48 7; labels = replicate 6 7; links = replicate 6 7; rec = record { page = 0; pages = 0; label = 0; opened = 0; fill = 0 } }) 8 6 .lent
+
+-- document 01's session: what is lent after records 4, 6, 8 and 14
+unfoldable after4 : Lent
+after4 = allocate (allocate (allocate (allocate fresh 3 1 .lent) 3 0 .lent) 4 0 .lent) 2 0 .lent
+
+unfoldable after6 : Lent
+after6 = store (store after4 12 2 77 .lent) 8 0 12 .lent
+
+unfoldable record8 : CollectOutcome
+record8 = collect after6 (8 ∷ 16 ∷ 12 ∷ 21 ∷ []) []
+
+unfoldable roots8 : List ℕ
+roots8 = 24 ∷ 32 ∷ 40 ∷ 44 ∷ []
+
+unfoldable record14 : CollectOutcome
+record14 = collect (record8 .lent) roots8 (34 ∷ 24 ∷ [])
+
+-- an object with a reference to itself, and a data word that looks like an address
+unfoldable itself : Lent
+itself = store (store (allocate fresh 2 1 .lent) 8 0 8 .lent) 8 1 8 .lent
+
+-- page 1 is full, with a reference to an object on page 2
+unfoldable across : Lent
+across = store (allocate (allocate fresh 7 1 .lent) 1 0 .lent) 8 0 16 .lent
+
+record Examples : Type 0 where
+  -- records 1 to 4, 7: the addresses, and the refusal
+  r1 : allocate fresh 3 1 .value ≡ 8
+  r4 : allocate (allocate (allocate (allocate fresh 3 1 .lent) 3 0 .lent) 4 0 .lent) 2 0 .value ≡ 21
+  r7 : allocate after6 0 0 .refusal ≡ 3
+  -- record 8: 16 words are copied, and every root follows
+  r8 : record8 .words ≡ 16
+  r8-counts : (record8 .hinted ≡ 0) × (record8 .taken ≡ 3) × (record8 .objects ≡ 4)
+  r8-roots : record8 .roots ≡ roots8
+  r8-labels : record8 .lent .labels ≡ 0 ∷ 0 ∷ 0 ∷ 2 ∷ 2 ∷ 2 ∷ []
+  r8-reference : at (record8 .lent .heap) 25 ≡ 40
+  r8-freed : take 24 (record8 .lent .heap) ≡ replicate 24 0
+  r8-sound : isSound (record8 .lent) ≡ isSound fresh
+  -- records 9 and 12: no room
+  r9 : collect (record8 .lent) roots8 [] .refusal ≡ 8
+  r12 : collect (record8 .lent) roots8 (34 ∷ 23 ∷ []) .refusal ≡ 8
+  -- record 14: two pages are hinted, 7 words are copied; records 15 and 16 load from what is left
+  r14 : record14 .words ≡ 7
+  r14-roots : record14 .roots ≡ 24 ∷ 32 ∷ 8 ∷ 12 ∷ []
+  r14-rest : (record14 .hinted ≡ 2) × (record14 .taken ≡ 1) × (record14 .lent .rec .opened ≡ 1) × (record14 .lent .rec .fill ≡ 7)
+  r15 : load (record14 .lent) 8 2 .value ≡ 77
+  r16 : load (record14 .lent) 24 0 .value ≡ 8
+  -- "Two root cells with one address end with one address."
+  shared : collect itself (8 ∷ 8 ∷ []) [] .roots ≡ 16 ∷ 16 ∷ []
+  shared-once : collect itself (8 ∷ 8 ∷ []) [] .objects ≡ 1
+  -- "A reference to its own object follows the copy", and a data word that looks like an address is left alone
+  self : drop 16 (take 19 (collect itself (8 ∷ []) [] .lent .heap)) ≡ headerOf 2 1 ∷ 16 ∷ 8 ∷ []
+  -- a hinted page stays, and its reference follows the copy
+  hinted : collect across [] (9 ∷ []) .lent .labels ≡ 0 ∷ 2 ∷ 0 ∷ 2 ∷ 0 ∷ 0 ∷ []
+  hinted-reference : at (collect across [] (9 ∷ []) .lent .heap) 9 ≡ 24
+  -- unsound heaps and bad roots are refused: a stray word on a free page, a root inside an object
+  stray : collect (record { heap = replicate 48 1; labels = fresh .labels; links = fresh .links; rec = fresh .rec }) [] [] .refusal ≡ 7
+  root : collect across (9 ∷ []) [] .refusal ≡ 6
+
+examples : Examples
+unfolding from block each has count first headerOf sizeOf refsOf isHeader isPageSize pageAtStart isShape pageNamed pagesNamed isFree lowestFree pagesUsed pagesUnhinted pagesNeeded otherLabel isLaidOut isLabel isOpen isValid walk behind starts stop isInUse isStart isReference landing lookUp isBlank refsGood isUsedSound isPageSound isFillSound isSound refused accepted start withObject allocate load mayStore store hintPage hintPages takePage withRoom top put copyObject forward forwardRoots sweepReference sweepReferences sweepPage sweepQueue freedLabels freedHeap planOf begun afterHints afterRoots afterSweep collection unhinted hasRoom refusalOfCollect refusedCollect acceptedCollect collect fresh after4 after6 record8 roots8 record14 itself across
+examples = record {
+  r1 = refl;
+  r4 = refl;
+  r7 = refl;
+  r8 = refl;
+  r8-counts = (refl, refl, refl);
+  r8-roots = refl;
+  r8-labels = refl;
+  r8-reference = refl;
+  r8-freed = refl;
+  r8-sound = refl;
+  r9 = refl;
+  r12 = refl;
+  r14 = refl;
+  r14-roots = refl;
+  r14-rest = (refl, refl, refl, refl);
+  r15 = refl;
+  r16 = refl;
+  shared = refl;
+  shared-once = refl;
+  self = refl;
+  hinted = refl;
+  hinted-reference = refl;
+  stray = refl;
+  root = refl;
+}

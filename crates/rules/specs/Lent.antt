@@ -1,0 +1,35 @@
+-- What is lent to a call, and when the call is refused 1.
+use mathlib.Core.Bool.{Bool, cond, _&&_, _||_}
+use mathlib.Core.List.{List}
+use Prim.Native.Nat.{ℕ, _*_}
+use lib.ListN.{length}
+use lib.Dec.{eqb, leb, ltb}
+use Rattle.rules.specs.declared.Record.{Record}
+use Rattle.rules.specs.Ranges.{at}
+use Rattle.rules.specs.Pages.{isShape}
+
+-- "Lent beside the heap: one 16-bit label and one 16-bit link for each page." The record comes by value. Of the links no
+-- definition takes more than their number: "No answer depends on what they held before."
+pub record Lent : Type 0 where
+  pub heap : List ℕ
+  pub labels : List ℕ
+  pub links : List ℕ
+  pub rec : Record
+
+-- "Heap length is exactly P·T, the other two exactly T": with good P and T
+unfoldable pub isLaidOut : Lent → ℕ → ℕ → Bool
+isLaidOut m P T = isShape P T && (eqb (length (m .heap)) (T * P) && (eqb (length (m .labels)) T && eqb (length (m .links)) T))
+
+-- "current label, 1 or 2"
+unfoldable pub isLabel : ℕ → Bool
+isLabel l = eqb l 1 || eqb l 2
+
+-- "Open page 0 goes with fill P. Otherwise the open page is 1 to T-1 with the current label, and fill is 1 to P."
+unfoldable pub isOpen : List ℕ → Record → Bool
+isOpen labels r =
+    cond (eqb (r .opened) 0) (eqb (r .fill) (r .page))
+    (ltb (r .opened) (r .pages) && (eqb (at labels (r .opened)) (r .label) && (leb 1 (r .fill) && leb (r .fill) (r .page))))
+
+-- not refused 1: lengths, P, T and record are right
+unfoldable pub isValid : Lent → Bool
+isValid m = isLaidOut m (m .rec .page) (m .rec .pages) && (isLabel (m .rec .label) && isOpen (m .labels) (m .rec))

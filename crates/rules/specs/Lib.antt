@@ -1,0 +1,13 @@
+pub mod Ranges
+pub mod Header
+pub mod Pages
+pub mod Lent
+pub mod Walk
+pub mod Sound
+pub mod Calls
+pub mod Collection
+pub mod Collect
+pub mod Demands
+pub mod Tests
+pub mod Examples
+pub mod Edges

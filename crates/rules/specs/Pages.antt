@@ -1,0 +1,64 @@
+-- Pages: their size and number, which one a word names, which are free, how many a collection may need.
+use mathlib.Core.Bool.{Bool, cond, not, _&&_}
+use mathlib.Core.List.{List, [], _∷_}
+use Prim.Native.Nat.{ℕ, _*_, _-_, _/_}
+use lib.Dec.{eqb, leb, ltb}
+use Rattle.rules.specs.Ranges.{at, block, has, count, first}
+
+-- "P is a power of two from 8 to 1,024": Valid of Sound.antt says it as 2 ^ e, and the laws that both are one
+abbrev pub pageSizes : List ℕ
+pageSizes = 8 ∷ 16 ∷ 32 ∷ 64 ∷ 128 ∷ 256 ∷ 512 ∷ 1024 ∷ []
+
+unfoldable pub isPageSize : ℕ → Bool
+isPageSize P = has P pageSizes
+
+-- "at start only, P = 0 means 128 words"
+unfoldable pub pageAtStart : ℕ → ℕ
+pageAtStart P = cond (eqb P 0) 128 P
+
+-- "P is a power of two from 8 to 1,024 .. T is 3 to 4,096."
+unfoldable pub isShape : ℕ → ℕ → Bool
+isShape P T = isPageSize P && (leb 3 T && leb T 4096)
+
+-- the page that a word names among those from lo to hi - 1; 0 for none. "An address is a word's place in the heap; its
+-- page is the address divided by P, rounded down. Page 0 is never given out."
+unfoldable pub pageNamed : ℕ → ℕ → ℕ → ℕ → ℕ
+pageNamed P lo hi w = cond (leb lo (w / P) && ltb (w / P) hi) (w / P) 0
+
+-- the pages that hint words name, in order; a word that names none gives 0
+unfoldable pub pagesNamed : ℕ → ℕ → ℕ → List ℕ → List ℕ
+pagesNamed P lo hi [] = []
+pagesNamed P lo hi (w ∷ ws) = pageNamed P lo hi w ∷ pagesNamed P lo hi ws
+
+-- "Label 0 is free."
+unfoldable pub isFree : List ℕ → ℕ → Bool
+isFree labels g = eqb (at labels g) 0
+
+-- "the lowest-numbered page (from 1) with label 0", of those from lo to hi - 1; hi where none is free
+unfoldable pub lowestFree : List ℕ → ℕ → ℕ → ℕ
+lowestFree labels lo hi = first (isFree labels) (block lo hi) hi
+
+-- k: "nonzero labels among pages" lo to hi - 1
+unfoldable pub pagesUsed : List ℕ → ℕ → ℕ → ℕ
+pagesUsed labels lo hi = count (λ g. not (isFree labels g)) (block lo hi)
+
+-- k': "those of them that no hint names"; `named` are the pages that hints name
+unfoldable pub pagesUnhinted : List ℕ → ℕ → ℕ → List ℕ → ℕ
+pagesUnhinted labels lo hi named = count (λ g. not (isFree labels g) && not (has g named)) (block lo hi)
+
+-- "at most 2k' - 1 pages are taken", and none if k' is 0
+unfoldable pub pagesNeeded : ℕ → ℕ
+pagesNeeded k′ = cond (eqb k′ 0) 0 (2 * k′ - 1)
+
+-- "Pages in use carry the current label, 1 or 2; a collection gives the other one to what it retains."
+unfoldable pub otherLabel : ℕ → ℕ
+otherLabel label = cond (eqb label 1) 2 1
+
+-- The two calls on plain numbers, for C. "The first takes word, P and T and looks at no label; bad P or T gives 0 ..
+-- Here P = 0 is bad."
+unfoldable pub pageNamedToC : ℕ → ℕ → ℕ → ℕ
+pageNamedToC w P T = cond (isShape P T) (pageNamed P 1 T w) 0
+
+-- "The second takes k'; above 4,095 it gives 4,294,967,295."
+unfoldable pub pagesNeededToC : ℕ → ℕ
+pagesNeededToC k′ = cond (ltb 4095 k′) 4294967295 (pagesNeeded k′)

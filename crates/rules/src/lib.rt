@@ -1,0 +1,41 @@
+// The shapes that the definitions and the code share: the control record, what a call answers, and
+// what look-up finds. They cross to C as they stand, so every number is 32 bits wide.
+
+// The control record: P, T, current label, open page, fill. It goes in by value and comes back.
+#[repr(C)]
+pub struct Record {
+    pub page: u32,
+    pub pages: u32,
+    pub label: u32,
+    pub opened: u32,
+    pub fill: u32,
+}
+
+// What start, allocate, load and store answer: the refusal's number, 0 if accepted; the value, 0 if
+// refused; and the record.
+#[repr(C)]
+pub struct Answer {
+    pub refusal: u32,
+    pub value: u32,
+    pub rec: Record,
+}
+
+// What collect answers: the refusal's number, 0 if accepted; pages hinted, pages taken, objects copied
+// and words copied, four zeros if refused; and the record.
+#[repr(C)]
+pub struct Collected {
+    pub refusal: u32,
+    pub hinted: u32,
+    pub taken: u32,
+    pub objects: u32,
+    pub words: u32,
+    pub rec: Record,
+}
+
+// Where an address lands: on the start of an object, with its header; inside the object that starts
+// at an address; or on nothing.
+pub enum Found {
+    Start(u32),
+    Inside(u32),
+    Nothing,
+}
