@@ -2,12 +2,13 @@
 -- not above an address finds there.
 use mathlib.Core.Path.{_≡_, refl, sym, ap, _∙_}
 use mathlib.Core.Logic.{_≢_, _⊎_, inl, inr}
-use mathlib.Core.Bool.{Bool, true, false, cond, _&&_, _||_, true≢false}
+use mathlib.Core.Bool.{Bool, true, false, cond, _&&_, _||_, true≢false, and-false}
 use mathlib.Core.List.{List, [], _∷_, List·Memᴰ}
 use Prim.Native.Nat.{ℕ, zero, suc, _+_, _*_, _-_, _/_, _≤_, _<_}
+use native.Mathlib.Nat.{div-zero}
 use native.Mathlib.Omega.{arith}
-use native.Mathlib.Decide.{decLt}
-use lib.ListN.{length}
+use native.Mathlib.Decide.{decLt, ℕ-discrete}
+use lib.ListN.{length, List·getD-eq-default}
 use lib.Dec.{eqb, leb, ltb}
 use borrow.Author.Tests.{eqb-true, eqb-false, leb-true, ltb-true, ltb-false, eq-eqb, ne-eqb, le-leb, lt-leb, lt-ltb, le-ltb}
 use Rattle.rules.specs.declared.Found.{Found}
@@ -16,13 +17,13 @@ use Rattle.rules.specs.Tests.{and-left, and-right, and-is}
 use Rattle.rules.specs.Ranges.{at, has}
 use Rattle.rules.specs.Header.{sizeOf, refsOf, isHeader}
 use Rattle.rules.specs.Lent.{Lent}
-use Rattle.rules.specs.Walk.{starts, stop, isInUse, isStart, isReference, landing, lookUp}
+use Rattle.rules.specs.Walk.{behind, starts, stop, isInUse, isStart, isReference, landing, lookUp}
 use Rattle.rules.specs.Sound.{InUse, IsObject, Valid}
 use Rattle.laws.specs.Lists.{has-mem, mem-has}
-use Rattle.laws.specs.Headers.{Header, header-says}
+use Rattle.laws.specs.Headers.{Header, header-says, header-full, header-zero}
 use Rattle.laws.specs.Pages.{on-page, page-on}
 use Rattle.laws.specs.Valid.{Layout, page-within}
-use Rattle.laws.specs.Walk.{size, Steps, stops, step, steps-upto, page-steps, Met, met}
+use Rattle.laws.specs.Walk.{size, Steps, stops, step, steps-upto, page-steps, Met, met, objects, objects-end, objects-step, objects-steps, starts-are, behind-nil, behind-cons}
 
 -- ---- the tests and the propositions agree
 
@@ -182,3 +183,96 @@ module _ (h : List ℕ) (a : ℕ) where
           rw (lt-ltb a z (omega arith), last-above b r d, q, lt-ltb b a (omega arith), lt-ltb a (b + size h b) d)
       go true q (no d) ih u = let H = header-says (at h b) room e in absurd (let z = eqb-true a b q in omega (arith, H .shape))
       go false q (no d) ih u = rw (and-no (ltb b a) _ (le-ltb a (b + size h b) (omega arith))) (ih (omega arith))
+
+-- ---- the same as a loop over headers meets it: at `b`, with the last object so far
+
+pub record Walking (h : List ℕ) (base e a b last : ℕ) : Type 0 where
+  pub from : base ≤ b
+  pub stop : behind h b (objects h b e) ≡ behind h base (objects h base e)
+  pub last′ : lastUpTo a last (objects h b e) ≡ lastUpTo a base (objects h base e)
+  pub begins : b ≡ base → last ≡ base
+  pub inside : base < b → last < length h
+  pub below : base ≤ a → last ≤ a
+
+-- no header stands at or past the page's end, or past the heap
+pub no-header : (h : List ℕ) (b e : ℕ) → (e ≤ b) ⊎ (length h ≤ b) → isHeader (at h b) (e - b) ≡ false
+no-header h b e (inl p) = let z : e - b ≡ 0 = omega arith in rw z (header-full (at h b))
+no-header h b e (inr p) = rw (List·getD-eq-default h 0 p) (header-zero (e - b))
+
+module _ (h : List ℕ) (base e a : ℕ) where
+  pub walking-begins : Walking h base e a base base
+  walking-begins = record { from = omega arith; stop = refl; last′ = refl; begins = λ p. refl; inside = λ p. absurd (omega arith); below = λ p. p }
+
+  module _ (b last : ℕ) (W : Walking h base e a b last) where
+    pub walking-ends : isHeader (at h b) (e - b) ≡ false → (b ≡ behind h base (objects h base e)) × (last ≡ lastUpTo a base (objects h base e))
+    unfolding lastUpTo
+    walking-ends q =
+        let z = objects-end h b e q in
+        (sym (behind-nil h b) ∙ (rw z at (W .stop)), rw z at (W .last′))
+
+    pub walking-on : isHeader (at h b) (e - b) ≡ true → b < length h → (n last₁ : ℕ) → n ≡ size h b → last₁ ≡ cond (leb b a) b last → Walking h base e a (b + n) last₁
+    unfolding lastUpTo
+    walking-on q i n last₁ en el =
+        let z = objects-step h b e q in
+        let H = header-says _ _ q in
+        rw (en, el) (record {
+          from = omega (arith, W .from);
+          stop = sym (behind-cons h b b (objects h (b + size h b) e)) ∙ (rw z at (W .stop));
+          last′ = rw z at (W .last′);
+          begins = λ p. absurd (omega (arith, W .from, H .shape));
+          inside = λ p. into (leb b a) (ℕ-discrete base b);
+          below = λ p. under (leb b a) refl (W .below p);
+        })
+      where
+        into : (t : Bool) → Dec (base ≡ b) → cond t b last < length h
+        into true d = i
+        into false (no d) = W .inside (omega (arith, W .from))
+        into false (yes d) = omega (arith, W .begins (sym d))
+
+        under : (t : Bool) → leb b a ≡ t → last ≤ a → cond t b last ≤ a
+        under true t l = leb-true b a t
+        under false t l = l
+
+-- ---- look-up by cases, in the order of its tests
+
+module _ (m : Lent) (a : ℕ) where
+  nothing : isInUse m (a / m .rec .page) ≡ false → lookUp m a ≡ Nothing
+  unfolding lookUp
+  nothing e = rw e
+
+  pub look-low : a / m .rec .page < 1 → lookUp m a ≡ Nothing
+  unfolding isInUse
+  look-low h = nothing (rw (lt-leb 1 (a / m .rec .page) h))
+
+  pub look-no-page : m .rec .page ≡ 0 → lookUp m a ≡ Nothing
+  look-no-page e = look-low (rw (e, div-zero a) (omega arith))
+
+  pub look-high : m .rec .pages ≤ a / m .rec .page → lookUp m a ≡ Nothing
+  unfolding isInUse
+  look-high h = nothing (rw (le-ltb (a / m .rec .page) (m .rec .pages) h) (and-false (leb 1 (a / m .rec .page))))
+
+  pub look-label : at (m .labels) (a / m .rec .page) ≢ m .rec .label → lookUp m a ≡ Nothing
+  unfolding isInUse
+  look-label h = nothing (simp (ne-eqb _ _ h, and-false))
+
+  -- on a page in use: base is its first word, z the walk's stop, s the last object not above a
+  module _ (u : InUse m (a / m .rec .page)) (base : ℕ) (is-base : base ≡ a / m .rec .page * m .rec .page)
+      (z s : ℕ) (is-stop : z ≡ behind (m .heap) base (objects (m .heap) base (base + m .rec .page)))
+      (is-last : s ≡ lastUpTo a base (objects (m .heap) base (base + m .rec .page))) (pos : 0 < m .rec .page) where
+    look-walked : lookUp m a ≡ cond (ltb a z) (landed (m .heap) a s) Nothing
+    unfolding lookUp
+    look-walked =
+        let st = objects-steps (m .heap) base (base + m .rec .page) in
+        rw (in-use-is m _ u, starts-are m (a / m .rec .page), sym is-base, is-stop, is-last)
+        (landing-last (m .heap) a base st (omega (arith, page-on pos a _ refl .0)))
+
+    pub look-past : z ≤ a → lookUp m a ≡ Nothing
+    look-past h = look-walked ∙ rw (le-ltb a z h)
+
+    pub look-start : a < z → s ≡ a → lookUp m a ≡ Start (at (m .heap) s)
+    unfolding landed
+    look-start h e = look-walked ∙ rw (lt-ltb a z h, eq-eqb a s (sym e))
+
+    pub look-inside : a < z → s ≢ a → lookUp m a ≡ Inside s
+    unfolding landed
+    look-inside h e = look-walked ∙ rw (lt-ltb a z h, ne-eqb a s (λ q. e (sym q)))

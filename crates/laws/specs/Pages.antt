@@ -1,17 +1,17 @@
 -- Laws of pages, once for all P: their size, where they lie, and which page an address is on.
 use mathlib.Core.Path.{_≡_, refl, sym, ap, _∙_}
 use mathlib.Core.Logic.{_⊎_, inl, inr}
-use mathlib.Core.Bool.{Bool, true, false, _&&_, or-true}
+use mathlib.Core.Bool.{Bool, true, false, cond, _&&_, or-true, and-false}
 use mathlib.Core.List.{List, [], _∷_, map, List·Memᴰ, Memᴰ·cast, Memᴰ·map, Memᴰ·of-map}
 use Prim.Native.Nat.{ℕ, zero, suc, _+_, _*_, _-_, _/_, _%_, _≤_, _<_, _^_}
-use native.Mathlib.Nat.{mul-add-div-right, div-eq-of-lt, add-zero, div-add-mod', mod-lt, mul-le-mul, mul-le-mul-right, suc-mul}
+use native.Mathlib.Nat.{div-zero, mul-add-div-right, div-eq-of-lt, add-zero, div-add-mod', mod-lt, mul-le-mul, mul-le-mul-right, suc-mul}
 use native.Mathlib.Omega.{arith}
 use types.Run.{OneOf}
-use lib.Dec.{eqb, leb}
-use borrow.Author.Tests.{leb-true, eq-eqb, ne-eqb, le-leb}
+use lib.Dec.{eqb, leb, ltb}
+use borrow.Author.Tests.{leb-true, eq-eqb, ne-eqb, le-leb, lt-leb, lt-ltb, le-ltb}
 use Rattle.rules.specs.Tests.{and-left, and-right, and-is}
 use Rattle.rules.specs.Ranges.{from, block, each, has}
-use Rattle.rules.specs.Pages.{pageSizes, isPageSize, isShape}
+use Rattle.rules.specs.Pages.{pageSizes, isPageSize, isShape, pageNamed}
 use Rattle.laws.specs.Lists.{has-mem, mem-has, each-true, block-mem, mem-block}
 
 -- ---- page sizes
@@ -100,3 +100,26 @@ pub page-on : {P : ℕ} → 0 < P → (w g : ℕ) → w / P ≡ g → (g * P ≤
 page-on {P} pos w g q =
     let k : w / P * P ≡ g * P = ap (λ (j : ℕ). j * P) q in
     (omega (arith, split-page P w), omega (arith, split-page P w, mod-lt w pos))
+
+-- ---- the page that a word names
+
+module _ (P lo hi w : ℕ) where
+  pub named-none : P ≡ 0 → pageNamed P lo hi w ≡ 0
+  unfolding pageNamed
+  named-none e = rw (e, div-zero w) (go (leb lo 0 && ltb 0 hi))
+    where
+      go : (b : Bool) → _≡_ {A = ℕ} (cond b 0 0) 0
+      go true = refl
+      go false = refl
+
+  pub named-low : w / P < lo → pageNamed P lo hi w ≡ 0
+  unfolding pageNamed
+  named-low h = rw (lt-leb lo (w / P) h)
+
+  pub named-high : hi ≤ w / P → pageNamed P lo hi w ≡ 0
+  unfolding pageNamed
+  named-high h = rw (le-ltb (w / P) hi h, and-false (leb lo (w / P)))
+
+  pub named-is : lo ≤ w / P → w / P < hi → pageNamed P lo hi w ≡ w / P
+  unfolding pageNamed
+  named-is a b = rw (le-leb lo (w / P) a, lt-ltb (w / P) hi b)

@@ -5,6 +5,7 @@ use mathlib.Core.Logic.{_≢_, _⊎_, inl, inr}
 use mathlib.Core.Bool.{Bool, true, false, cond, _&&_, _||_}
 use mathlib.Core.List.{List}
 use Prim.Native.Nat.{ℕ, _+_, _*_, _≤_, _<_}
+use native.Mathlib.Decide.{ℕ-discrete}
 use native.Mathlib.Omega.{arith}
 use lib.ListN.{length}
 use lib.Dec.{eqb, leb, ltb}
@@ -27,7 +28,7 @@ pub record Layout (m : Lent) (P T : ℕ) : Type 0 where
   pub labels : length (m .labels) ≡ T
   pub links : length (m .links) ≡ T
 
-pub layout-says : (m : Lent) (P T : ℕ) → isLaidOut m P T ≡ true → Layout m P T
+pub layout-says : (m : Lent) (P T : ℕ) → isLaidOut (length (m .heap)) (length (m .labels)) (length (m .links)) P T ≡ true → Layout m P T
 unfolding isLaidOut
 layout-says m P T e =
     let s = shape-says P T (and-left _ _ e) in
@@ -65,6 +66,18 @@ label-is l (inr q) = go (eqb l 1)
     go : (b : Bool) → (b || eqb l 2) ≡ true
     go true = refl
     go false = eq-eqb l 2 q
+
+pub label-in : (l : ℕ) → 1 ≤ l → l ≤ 2 → isLabel l ≡ true
+label-in l a b = label-is l (go (ℕ-discrete l 1))
+  where
+    go : Dec (l ≡ 1) → (l ≡ 1) ⊎ (l ≡ 2)
+    go (yes q) = inl q
+    go (no q) = inr (omega arith)
+
+pub label-out : (l : ℕ) → (l < 1) ⊎ (2 < l) → isLabel l ≡ false
+unfolding isLabel
+label-out l (inl h) = rw (ne-eqb l 1 (λ q. omega arith), ne-eqb l 2 (λ q. omega arith))
+label-out l (inr h) = rw (ne-eqb l 1 (λ q. omega arith), ne-eqb l 2 (λ q. omega arith))
 
 module _ (m : Lent) where
   open-says : isOpen (m .labels) (m .rec) ≡ true → ((m .rec .opened ≡ 0) × (m .rec .fill ≡ m .rec .page)) ⊎ Opened m
@@ -106,7 +119,7 @@ module _ (m : Lent) where
   unfolding isValid isLaidOut isShape
   valid-says e =
       let y = layout-says m (m .rec .page) (m .rec .pages) (and-left _ _ e) in
-      let e1 = and-right (isLaidOut m (m .rec .page) (m .rec .pages)) _ e in
+      let e1 = and-right (isLaidOut (length (m .heap)) (length (m .labels)) (length (m .links)) (m .rec .page) (m .rec .pages)) _ e in
       record {
         page = size-power (m .rec .page) (and-left _ _ (and-left _ _ (and-left _ _ e)));
         pages = (y .pages-low, y .pages-high);

@@ -42,7 +42,7 @@ unless ok e m go = cond ok go (refused e m)
 unfoldable pub start : Lent → ℕ → ℕ → Outcome
 start m P₀ T =
     let P = pageAtStart P₀ in
-    unless (isLaidOut m P T) 1 m
+    unless (isLaidOut (length (m .heap)) (length (m .labels)) (length (m .links)) P T) 1 m
     (accepted 0 (record {
       heap = replicate (length (m .heap)) 0;
       labels = replicate (length (m .labels)) 0;

@@ -16,9 +16,12 @@ pub record Lent : Type 0 where
   pub links : List ℕ
   pub rec : Record
 
--- "Heap length is exactly P·T, the other two exactly T": with good P and T
-unfoldable pub isLaidOut : Lent → ℕ → ℕ → Bool
-isLaidOut m P T = isShape P T && (eqb (length (m .heap)) (T * P) && (eqb (length (m .labels)) T && eqb (length (m .links)) T))
+abbrev pub lent : List ℕ → List ℕ → List ℕ → Record → Lent
+lent heap labels links r = record { heap = heap; labels = labels; links = links; rec = r }
+
+-- "Heap length is exactly P·T, the other two exactly T", with good P and T: of the lengths of heap, labels and links
+unfoldable pub isLaidOut : ℕ → ℕ → ℕ → ℕ → ℕ → Bool
+isLaidOut heap labels links P T = isShape P T && (eqb heap (T * P) && (eqb labels T && eqb links T))
 
 -- "current label, 1 or 2"
 unfoldable pub isLabel : ℕ → Bool
@@ -32,4 +35,6 @@ isOpen labels r =
 
 -- not refused 1: lengths, P, T and record are right
 unfoldable pub isValid : Lent → Bool
-isValid m = isLaidOut m (m .rec .page) (m .rec .pages) && (isLabel (m .rec .label) && isOpen (m .labels) (m .rec))
+isValid m =
+    isLaidOut (length (m .heap)) (length (m .labels)) (length (m .links)) (m .rec .page) (m .rec .pages)
+    && (isLabel (m .rec .label) && isOpen (m .labels) (m .rec))

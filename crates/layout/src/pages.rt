@@ -1,0 +1,77 @@
+// Pages by number: their size, which one a word names, how many a collection may need.
+ghost use mathlib.Core.Path.{_≡_};
+ghost use Rattle.rules.specs.Pages.{isPageSize, isShape, pageAtStart, pageNamed, otherLabel, pageNamedToC, pagesNeededToC};
+
+// P is a power of two from 8 to 1,024.
+pub fn is_page_size(page: u32) -> bool
+    ensures { λ r. ⌜ r ≡ isPageSize page ⌝ }
+{
+    match page {
+        8 | 16 | 32 | 64 | 128 | 256 | 512 | 1024 => true,
+        _ => false,
+    }
+}
+
+// P and T are good.
+pub fn is_shape(page: u32, pages: u32) -> bool
+    ensures { λ r. ⌜ r ≡ isShape page pages ⌝ }
+{
+    if !is_page_size(page) {
+        return false;
+    }
+    if pages < 3 {
+        return false;
+    }
+    pages <= 4096
+}
+
+// P = 0 at a start means the default.
+pub fn page_at_start(page: u32) -> u32
+    ensures { λ r. ⌜ r ≡ pageAtStart page ⌝ }
+{
+    if page == 0 { 128 } else { page }
+}
+
+// The page from lo to hi - 1 that the word names, 0 for none.
+pub fn page_named(page: u32, lo: u32, hi: u32, word: u32) -> u32
+    ensures { λ r. ⌜ r ≡ pageNamed page lo hi word ⌝ }
+{
+    if page == 0 {
+        return 0;
+    }
+    let g = word / page;
+    if g < lo {
+        return 0;
+    }
+    if g < hi { g } else { 0 }
+}
+
+// The same for a native solver, which may ask with any P and T: a bad one names no page.
+pub fn page_named_checked(word: u32, page: u32, pages: u32) -> u32
+    ensures { λ r. ⌜ r ≡ pageNamedToC word page pages ⌝ }
+{
+    if !is_shape(page, pages) {
+        return 0;
+    }
+    page_named(page, 1, pages, word)
+}
+
+// How many pages a collection may take where no hint names `unhinted` of the pages in use.
+pub fn pages_needed(unhinted: u32) -> u32
+    ensures { λ r. ⌜ r ≡ pagesNeededToC unhinted ⌝ }
+{
+    if 4095 < unhinted {
+        return 4294967295;
+    }
+    if unhinted == 0 {
+        return 0;
+    }
+    2 * unhinted - 1
+}
+
+// The label that a collection gives to what it retains.
+pub fn other_label(label: u32) -> u32
+    ensures { λ r. ⌜ r ≡ otherLabel label ⌝ }
+{
+    if label == 1 { 2 } else { 1 }
+}
