@@ -17,7 +17,7 @@ use Rattle.rules.specs.declared.Found.the-variants.{Start, Inside, Nothi
 use Rattle.rules.specs.Ranges.{at}
 use Rattle.rules.specs.Header.{headerOf, sizeOf, refsOf}
 use Rattle.rules.specs.Pages.{pageAtStart, lowestFree, pagesUsed}
-use Rattle.rules.specs.Lent.{Lent, isLaidOut, isValid}
+use Rattle.rules.specs.Lent.{Lent, opening, isLaidOut, isValid}
 use Rattle.rules.specs.Walk.{isReference, lookUp, refusalOf}
 
 -- the refusal's number, 0 if accepted; the value; and what was lent, with the record, as the call leaves it
@@ -56,7 +56,7 @@ withObject m g f d p labels = record {
   heap = sets (m .heap) (g * m .rec .page + f) (headerOf d p ∷ replicate d 0);
   labels = labels;
   links = m .links;
-  rec = record { page = m .rec .page; pages = m .rec .pages; label = m .rec .label; opened = g; fill = f + (d + 1) };
+  rec = opening (m .rec) g (f + (d + 1));
 }
 
 -- "Allocate puts the object at fill if it fits. Otherwise it takes the lowest-numbered page (from 1) with label 0, labels

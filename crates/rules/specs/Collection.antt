@@ -8,7 +8,7 @@ use lib.Dec.{eqb, leb, ltb}
 use Rattle.rules.specs.Ranges.{at}
 use Rattle.rules.specs.Header.{sizeOf, refsOf, isHeader}
 use Rattle.rules.specs.Pages.{pagesNamed, lowestFree, otherLabel}
-use Rattle.rules.specs.Lent.{Lent}
+use Rattle.rules.specs.Lent.{Lent, opening, relabelled}
 
 -- an object copied: from where, to where
 pub record Move : Type 0 where
@@ -203,7 +203,7 @@ collection logs m roots hints =
         heap = freedHeap (k .page) (k .old) (s .pages .labels) (s .heap);
         labels = freedLabels (k .old) (s .pages .labels);
         links = replicate (length (m .links)) 0;
-        rec = record { page = m .rec .page; pages = m .rec .pages; label = k .new; opened = s .pages .copy; fill = s .pages .fill };
+        rec = opening (relabelled (m .rec) (k .new)) (s .pages .copy) (s .pages .fill);
       };
       roots = afterRoots k m roots hints .roots;
       hinted = n;

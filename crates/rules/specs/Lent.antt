@@ -19,6 +19,13 @@ pub record Lent : Type 0 where
 abbrev pub lent : List ℕ → List ℕ → List ℕ → Record → Lent
 lent heap labels links r = record { heap = heap; labels = labels; links = links; rec = r }
 
+-- a record with another open page and fill, and with another label
+abbrev pub opening : Record → ℕ → ℕ → Record
+opening r g f = record { page = r .page; pages = r .pages; label = r .label; opened = g; fill = f }
+
+abbrev pub relabelled : Record → ℕ → Record
+relabelled r l = record { page = r .page; pages = r .pages; label = l; opened = r .opened; fill = r .fill }
+
 -- "Heap length is exactly P·T, the other two exactly T", with good P and T: of the lengths of heap, labels and links
 unfoldable pub isLaidOut : ℕ → ℕ → ℕ → ℕ → ℕ → Bool
 isLaidOut heap labels links P T = isShape P T && (eqb heap (T * P) && (eqb labels T && eqb links T))

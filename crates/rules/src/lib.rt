@@ -1,6 +1,9 @@
 // The shapes that the definitions and the code share: the control record, what a call answers, and
 // what look-up finds. They cross to C as they stand, so every number is 32 bits wide.
 
+ghost use mathlib.Core.Path.{_≡_};
+ghost use Rattle.rules.specs.Lent.{opening, relabelled};
+
 // The control record: P, T, current label, open page, fill. It goes in by value and comes back.
 #[repr(C)]
 pub struct Record {
@@ -9,6 +12,25 @@ pub struct Record {
     pub label: u32,
     pub opened: u32,
     pub fill: u32,
+}
+
+impl Record {
+    // The open page and its fill move.
+    pub fn opening(mut self, opened: u32, fill: u32) -> Record
+        ensures { λ r. ⌜ r ≡ opening self opened fill ⌝ }
+    {
+        self.opened = opened;
+        self.fill = fill;
+        self
+    }
+
+    // The current label moves.
+    pub fn relabelled(mut self, label: u32) -> Record
+        ensures { λ r. ⌜ r ≡ relabelled self label ⌝ }
+    {
+        self.label = label;
+        self
+    }
 }
 
 // What start, allocate, load and store answer: the refusal's number, 0 if accepted; the value, 0 if
