@@ -3,14 +3,14 @@
 use mathlib.Core.Path.{_≡_, refl, sym, ap, _∙_}
 use mathlib.Core.Logic.{_≢_, _⊎_, inl, inr}
 use mathlib.Core.Bool.{Bool, true, false, cond, _&&_, _||_, true≢false, and-false}
-use mathlib.Core.List.{List, [], _∷_, List·Memᴰ}
-use Prim.Native.Nat.{ℕ, zero, suc, _+_, _*_, _-_, _/_, _≤_, _<_}
+use mathlib.Core.List.{List, [], _∷_}
+use Prim.Native.Nat.{ℕ, _+_, _*_, _-_, _/_, _≤_, _<_}
 use native.Mathlib.Nat.{div-zero}
 use native.Mathlib.Omega.{arith}
 use native.Mathlib.Decide.{decLt, ℕ-discrete}
 use lib.ListN.{length, List·getD-eq-default}
 use lib.Dec.{eqb, leb, ltb}
-use borrow.Author.Tests.{eqb-true, eqb-false, leb-true, ltb-true, ltb-false, eq-eqb, ne-eqb, le-leb, lt-leb, lt-ltb, le-ltb}
+use borrow.Author.Tests.{eqb-true, eqb-false, leb-true, ltb-true, eq-eqb, ne-eqb, le-leb, lt-leb, lt-ltb, le-ltb}
 use Rattle.rules.specs.declared.Found.{Found}
 use Rattle.rules.specs.declared.Found.the-variants.{Start, Inside, Nothing}
 use Rattle.rules.specs.Tests.{and-left, and-right, and-is}
@@ -18,12 +18,12 @@ use Rattle.rules.specs.Ranges.{at, has}
 use Rattle.rules.specs.Header.{sizeOf, refsOf, isHeader}
 use Rattle.rules.specs.Lent.{Lent}
 use Rattle.rules.specs.Walk.{behind, starts, stop, isInUse, isStart, isReference, landing, lookUp}
-use Rattle.rules.specs.Sound.{InUse, IsObject, Valid}
+use Rattle.rules.specs.Sound.{InUse, IsObject}
 use Rattle.laws.specs.Lists.{has-mem, mem-has}
-use Rattle.laws.specs.Headers.{Header, header-says, header-full, header-zero}
-use Rattle.laws.specs.Pages.{on-page, page-on}
+use Rattle.laws.specs.Headers.{header-says, header-full, header-zero}
+use Rattle.laws.specs.Pages.{page-on}
 use Rattle.laws.specs.Valid.{Layout, page-within}
-use Rattle.laws.specs.Walk.{size, Steps, stops, step, steps-upto, page-steps, Met, met, objects, objects-end, objects-step, objects-steps, starts-are, behind-nil, behind-cons}
+use Rattle.laws.specs.Walk.{size, Steps, stops, step, steps-upto, page-steps, met, objects, objects-end, objects-step, objects-steps, starts-are, behind-nil, behind-cons}
 
 -- ---- the tests and the propositions agree
 

@@ -1,15 +1,15 @@
 -- Laws of pages, once for all P: their size, where they lie, and which page an address is on.
 use mathlib.Core.Path.{_≡_, refl, sym, ap, _∙_}
-use mathlib.Core.Logic.{_⊎_, inl, inr}
+use mathlib.Core.Logic.{inl, inr}
 use mathlib.Core.Bool.{Bool, true, false, cond, _&&_, or-true, and-false}
 use mathlib.Core.List.{List, [], _∷_, map, List·Memᴰ, Memᴰ·cast, Memᴰ·map, Memᴰ·of-map}
-use Prim.Native.Nat.{ℕ, zero, suc, _+_, _*_, _-_, _/_, _%_, _≤_, _<_, _^_}
+use Prim.Native.Nat.{ℕ, _+_, _*_, _-_, _/_, _%_, _≤_, _<_, _^_}
 use native.Mathlib.Nat.{div-zero, mul-add-div-right, div-eq-of-lt, add-zero, div-add-mod', mod-lt, mul-le-mul, mul-le-mul-right, suc-mul}
 use native.Mathlib.Omega.{arith}
 use types.Run.{OneOf}
-use lib.Dec.{eqb, leb, ltb}
+use lib.Dec.{leb, ltb}
 use borrow.Author.Tests.{leb-true, eq-eqb, ne-eqb, le-leb, lt-leb, lt-ltb, le-ltb}
-use Rattle.rules.specs.Tests.{and-left, and-right, and-is}
+use Rattle.rules.specs.Tests.{and-left, and-right}
 use Rattle.rules.specs.Ranges.{from, block, each, has}
 use Rattle.rules.specs.Pages.{pageSizes, isPageSize, isShape, pageNamed}
 use Rattle.laws.specs.Lists.{has-mem, mem-has, each-true, block-mem, mem-block}

@@ -3,7 +3,7 @@
 -- contract of the code mentions the theory's invariant.
 use mathlib.Core.Path.{_≡_}
 use mathlib.Core.Logic.{_≢_, _⊎_}
-use mathlib.Core.Bool.{Bool, true}
+use mathlib.Core.Bool.{true}
 use mathlib.Core.List.{List, [], _∷_}
 use Prim.Native.Nat.{ℕ, zero, suc, _+_, _*_, _-_, _/_, _%_, _≤_, _<_}
 use lib.ListN.{length}
@@ -11,7 +11,7 @@ use Rattle.rules.specs.Ranges.{at}
 use Rattle.rules.specs.Header.{sizeOf, refsOf, isHeader}
 use Rattle.rules.specs.Pages.{pagesNamed, lowestFree}
 use Rattle.rules.specs.Lent.{Lent}
-use Rattle.rules.specs.Collection.{Plan, Pages, State, hintPage, withRoom, top, forward, sweepReference, sweepReferences, sweepPage, begun, afterHints, afterRoots, afterSweep, planOf}
+use Rattle.rules.specs.Collection.{Plan, Pages, State, hintPage, withRoom, top, forward, sweepReference, sweepReferences, sweepPage, begun, afterHints, afterRoots, afterSweep}
 
 -- step 1: a named page can join the queue
 pub record SafeHint (k : Plan) (s : Pages) : Type 0 where

@@ -3,7 +3,7 @@ use mathlib.Core.Path.{_≡_, refl, sym, ap, _∙_, subst}
 use mathlib.Core.Logic.{_≢_, _⊎_, inl, inr}
 use mathlib.Core.Bool.{Bool, true, false, cond, _&&_}
 use mathlib.Core.List.{List, [], _∷_, List·Memᴰ, List·Memᴰ·head, List·Memᴰ·not-nil}
-use Prim.Native.Nat.{ℕ, zero, suc, _+_, _*_, _-_, _/_, _%_, _≤_, _<_}
+use Prim.Native.Nat.{ℕ, zero, _+_, _*_, _-_, _/_, _≤_, _<_}
 use native.Mathlib.Nat.{mul-le-mul-right}
 use native.Mathlib.Decide.{ℕ-discrete, decLt}
 use native.Mathlib.Omega.{arith}
@@ -12,16 +12,14 @@ use lib.Dec.{eqb, leb}
 use borrow.Author.Tests.{eqb-true, eqb-false, eq-eqb, ne-eqb, leb-true, le-leb}
 use Rattle.rules.specs.Tests.{and-left, and-right, and-is}
 use Rattle.rules.specs.Ranges.{at, block, each}
-use Rattle.rules.specs.Header.{sizeOf, refsOf, isHeader}
 use Rattle.rules.specs.Pages.{isFree}
 use Rattle.rules.specs.Lent.{Lent, isValid}
 use Rattle.rules.specs.Walk.{starts, stop, isReference}
 use Rattle.rules.specs.Sound.{isBlank, refsGood, isUsedSound, isPageSound, isFillSound, isSound, InUse, IsObject, refs, payload, Valid, Sound}
 use Rattle.laws.specs.Lists.{each-true, true-each, each-block, block-each}
-use Rattle.laws.specs.Headers.{header-says}
 use Rattle.laws.specs.Pages.{on-page, page-on, split-page}
-use Rattle.laws.specs.Valid.{Layout, valid-says, valid-is, valid-layout, valid-laid}
-use Rattle.laws.specs.Walk.{Steps, page-steps, Met, met, steps-upto}
+use Rattle.laws.specs.Valid.{Layout, valid-says, valid-is, valid-layout}
+use Rattle.laws.specs.Walk.{page-steps, met, steps-upto}
 use Rattle.laws.specs.LookUp.{reference-says, reference-is}
 
 -- ---- zeros and references

@@ -1,9 +1,8 @@
 -- That nothing is refused 1 is a test, `isValid`, and a proposition, `Valid`: they agree. Beside them `Layout`, the plain
 -- numbers that code needs of it.
-use mathlib.Core.Path.{_≡_, refl, sym, ap, _∙_}
-use mathlib.Core.Logic.{_≢_, _⊎_, inl, inr}
+use mathlib.Core.Path.{_≡_, refl}
+use mathlib.Core.Logic.{_⊎_, inl, inr}
 use mathlib.Core.Bool.{Bool, true, false, cond, _&&_, _||_}
-use mathlib.Core.List.{List}
 use Prim.Native.Nat.{ℕ, _+_, _*_, _≤_, _<_}
 use native.Mathlib.Decide.{ℕ-discrete}
 use native.Mathlib.Omega.{arith}
@@ -13,10 +12,10 @@ use borrow.Author.Tests.{eqb-true, eqb-false, leb-true, ltb-true, eq-eqb, ne-eqb
 use Rattle.rules.specs.declared.Record.{Record}
 use Rattle.rules.specs.Tests.{and-left, and-right, and-is}
 use Rattle.rules.specs.Ranges.{at}
-use Rattle.rules.specs.Pages.{isPageSize, isShape}
-use Rattle.rules.specs.Lent.{Lent, isLaidOut, isLabel, isOpen, isValid}
-use Rattle.rules.specs.Sound.{InUse, Opened, Valid}
-use Rattle.laws.specs.Pages.{Shape, shape-says, size-bounds, size-power, power-size, heap-fits, page-end}
+use Rattle.rules.specs.Pages.{isShape}
+use Rattle.rules.specs.Lent.{Lent, isLaidOut, isLaid, isLabel, isOpen, isValid}
+use Rattle.rules.specs.Sound.{Opened, Valid}
+use Rattle.laws.specs.Pages.{shape-says, size-power, power-size, heap-fits, page-end}
 
 -- lengths, P and T
 pub record Layout (m : Lent) (P T : ℕ) : Type 0 where
@@ -28,7 +27,7 @@ pub record Layout (m : Lent) (P T : ℕ) : Type 0 where
   pub labels : length (m .labels) ≡ T
   pub links : length (m .links) ≡ T
 
-pub layout-says : (m : Lent) (P T : ℕ) → isLaidOut (length (m .heap)) (length (m .labels)) (length (m .links)) P T ≡ true → Layout m P T
+pub layout-says : (m : Lent) (P T : ℕ) → isLaid m P T ≡ true → Layout m P T
 unfolding isLaidOut
 layout-says m P T e =
     let s = shape-says P T (and-left _ _ e) in
@@ -119,7 +118,7 @@ module _ (m : Lent) where
   unfolding isValid isLaidOut isShape
   valid-says e =
       let y = layout-says m (m .rec .page) (m .rec .pages) (and-left _ _ e) in
-      let e1 = and-right (isLaidOut (length (m .heap)) (length (m .labels)) (length (m .links)) (m .rec .page) (m .rec .pages)) _ e in
+      let e1 = and-right (isLaid m (m .rec .page) (m .rec .pages)) _ e in
       record {
         page = size-power (m .rec .page) (and-left _ _ (and-left _ _ (and-left _ _ e)));
         pages = (y .pages-low, y .pages-high);

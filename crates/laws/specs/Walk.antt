@@ -1,14 +1,14 @@
 -- Laws of the walk. `objects h a e` is the walk from address a to the page's end e: loops over headers go by its two laws.
 -- `Steps` is the same without fuel, for inductions.
-use mathlib.Core.Path.{_≡_, refl, sym, ap, _∙_, subst}
+use mathlib.Core.Path.{_≡_, refl, ap, _∙_, subst}
 use mathlib.Core.Logic.{_⊎_, inl, inr}
 use mathlib.Core.Bool.{Bool, true, false, cond}
-use mathlib.Core.List.{List, [], _∷_, _++_, List·Memᴰ, List·Memᴰ·head, List·Memᴰ·tail, List·Memᴰ·cases-cons, List·Memᴰ·not-nil}
+use mathlib.Core.List.{List, [], _∷_, List·Memᴰ, List·Memᴰ·head, List·Memᴰ·cases-cons, List·Memᴰ·not-nil}
 use Prim.Native.Nat.{ℕ, zero, suc, _+_, _*_, _-_, _≤_, _<_}
 use native.Mathlib.Omega.{arith}
 use lib.ListN.{length}
 use Rattle.rules.specs.Ranges.{at}
-use Rattle.rules.specs.Header.{sizeOf, refsOf, isHeader}
+use Rattle.rules.specs.Header.{sizeOf, isHeader}
 use Rattle.rules.specs.Lent.{Lent}
 use Rattle.rules.specs.Walk.{walk, behind, starts, stop}
 use Rattle.laws.specs.Headers.{Header, header-says, header-full}

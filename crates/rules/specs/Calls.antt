@@ -6,18 +6,17 @@
 --     page, and N < 3k + 2                                object start
 -- and for collect (Collect.antt) 7 unsound and 8 no room. Each definition below makes its checks in this order.
 use mathlib.Core.Bool.{Bool, cond, _&&_, _||_}
-use mathlib.Core.List.{List, [], _∷_}
-use Prim.Native.Nat.{ℕ, zero, suc, _+_, _*_, _-_}
+use mathlib.Core.List.{List, _∷_}
+use Prim.Native.Nat.{ℕ, _+_, _*_, _-_}
 use lib.ListN.{length, set, replicate}
 use lib.Seq.{sets}
-use lib.Dec.{eqb, leb, ltb}
-use Rattle.rules.specs.declared.Record.{Record}
+use lib.Dec.{leb, ltb}
 use Rattle.rules.specs.declared.Found.{Found}
 use Rattle.rules.specs.declared.Found.the-variants.{Start, Inside, Nothing}
 use Rattle.rules.specs.Ranges.{at}
 use Rattle.rules.specs.Header.{headerOf, sizeOf, refsOf}
 use Rattle.rules.specs.Pages.{pageAtStart, lowestFree, pagesUsed}
-use Rattle.rules.specs.Lent.{Lent, opening, isLaidOut, isValid}
+use Rattle.rules.specs.Lent.{Lent, opening, isLaid, isValid}
 use Rattle.rules.specs.Walk.{isReference, lookUp, refusalOf}
 
 -- the refusal's number, 0 if accepted; the value; and what was lent, with the record, as the call leaves it
@@ -38,17 +37,18 @@ accepted v m = record { refusal = 0; value = v; lent = m }
 abbrev pub unless : Bool → ℕ → Lent → Outcome → Outcome
 unless ok e m go = cond ok go (refused e m)
 
--- "Start zeroes heap, labels and links; current label 1, no open page." "start takes any record"
+-- "Start zeroes heap, labels and links; current label 1, no open page."
+abbrev pub started : Lent → ℕ → ℕ → Lent
+started m P T = record {
+  heap = replicate (length (m .heap)) 0;
+  labels = replicate (length (m .labels)) 0;
+  links = replicate (length (m .links)) 0;
+  rec = record { page = P; pages = T; label = 1; opened = 0; fill = P };
+}
+
+-- "start takes any record"; "at start only, P = 0 means 128 words"
 unfoldable pub start : Lent → ℕ → ℕ → Outcome
-start m P₀ T =
-    let P = pageAtStart P₀ in
-    unless (isLaidOut (length (m .heap)) (length (m .labels)) (length (m .links)) P T) 1 m
-    (accepted 0 (record {
-      heap = replicate (length (m .heap)) 0;
-      labels = replicate (length (m .labels)) 0;
-      links = replicate (length (m .links)) 0;
-      rec = record { page = P; pages = T; label = 1; opened = 0; fill = P };
-    }))
+start m P T = unless (isLaid m (pageAtStart P) T) 1 m (accepted 0 (started m (pageAtStart P) T))
 
 -- "In the heap it writes the header and d zeros, and nothing else." The object is on page g, `f` words from its first
 unfoldable pub withObject : Lent → ℕ → ℕ → ℕ → ℕ → List ℕ → Lent
@@ -59,18 +59,30 @@ withObject m g f d p labels = record {
   rec = opening (m .rec) g (f + (d + 1));
 }
 
+-- not refused 2; the object fits the open page; not refused 3; the page that is taken then
+abbrev pub goodShape : Lent → ℕ → ℕ → Bool
+goodShape m d p = leb d (m .rec .page - 1) && leb p d
+
+abbrev pub fitsOpen : Lent → ℕ → Bool
+fitsOpen m d = leb (m .rec .fill + (d + 1)) (m .rec .page)
+
+abbrev pub mayTake : Lent → Bool
+mayTake m = leb (3 * pagesUsed (m .labels) 1 (m .rec .pages) + 2) (m .rec .pages - 1)
+
+abbrev pub newPage : Lent → ℕ
+newPage m = lowestFree (m .labels) 1 (m .rec .pages)
+
 -- "Allocate puts the object at fill if it fits. Otherwise it takes the lowest-numbered page (from 1) with label 0, labels
 -- it, and begins at its first word .. The answer is the address."
 unfoldable pub allocate : Lent → ℕ → ℕ → Outcome
 allocate m d p =
     let r = m .rec in
-    let g = lowestFree (m .labels) 1 (r .pages) in
     unless (isValid m) 1 m
-    (unless (leb d (r .page - 1) && leb p d) 2 m
-    (cond (leb (r .fill + (d + 1)) (r .page))
+    (unless (goodShape m d p) 2 m
+    (cond (fitsOpen m d)
     (accepted (r .opened * r .page + r .fill) (withObject m (r .opened) (r .fill) d p (m .labels)))
-    (unless (leb (3 * pagesUsed (m .labels) 1 (r .pages) + 2) (r .pages - 1)) 3 m
-    (accepted (g * r .page) (withObject m g 0 d p (set (m .labels) g (r .label)))))))
+    (unless (mayTake m) 3 m
+    (accepted (newPage m * r .page) (withObject m (newPage m) 0 d p (set (m .labels) (newPage m) (r .label)))))))
 
 -- what follows once the address is found to be an object start, with its header; else look-up's refusal
 abbrev pub onStart : Found → Lent → (ℕ → Outcome) → Outcome
@@ -90,6 +102,9 @@ load m a i =
 unfoldable pub mayStore : Lent → ℕ → ℕ → ℕ → Bool
 mayStore m w i v = leb (refsOf w) i || isReference m v
 
+abbrev pub stored : Lent → ℕ → ℕ → ℕ → Lent
+stored m a i v = record { heap = set (m .heap) (a + 1 + i) v; labels = m .labels; links = m .links; rec = m .rec }
+
 -- "Store writes it .. Start and store answer 0."
 unfoldable pub store : Lent → ℕ → ℕ → ℕ → Outcome
 store m a i v =
@@ -97,4 +112,4 @@ store m a i v =
     (onStart (lookUp m a) m (λ w.
     unless (ltb i (sizeOf w - 1)) 5 m
     (unless (mayStore m w i v) 6 m
-    (accepted 0 (record { heap = set (m .heap) (a + 1 + i) v; labels = m .labels; links = m .links; rec = m .rec })))))
+    (accepted 0 (stored m a i v)))))

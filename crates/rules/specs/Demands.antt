@@ -1,9 +1,9 @@
 -- The third demand, over the definitions that the code's contracts cite. The first two are the contracts themselves: each
 -- call has no `requires`, and equals its definition.
 use mathlib.Core.Path.{_≡_}
-use mathlib.Core.Logic.{_≢_, _⊎_}
+use mathlib.Core.Logic.{_⊎_}
 use mathlib.Core.List.{List, [], _∷_, List·Memᴰ}
-use Prim.Native.Nat.{ℕ, _+_, _*_, _-_, _/_, _≤_, _<_}
+use Prim.Native.Nat.{ℕ, _+_, _/_, _≤_, _<_}
 use lib.ListN.{length}
 use Rattle.rules.specs.Ranges.{at}
 use Rattle.rules.specs.Header.{sizeOf}

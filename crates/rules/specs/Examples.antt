@@ -10,8 +10,8 @@ use Rattle.rules.specs.Pages.{isPageSize, pageAtStart, isShape, pageName
 use Rattle.rules.specs.Lent.{Lent, isLaidOut, isLabel, isOpen, isValid}
 use Rattle.rules.specs.Walk.{walk, behind, starts, stop, isInUse, isStart, isReference, landing, lookUp}
 use Rattle.rules.specs.Sound.{isBlank, refsGood, isUsedSound, isPageSound, isFillSound, isSound}
-use Rattle.rules.specs.Calls.{Outcome, refused, accepted, start, withObject, allocate, load, mayStore, store}
-use Rattle.rules.specs.Collection.{hintPage, hintPages, takePage, withRoom, top, put, copyObject, forward, forwardRoots, sweepReference, sweepReferences, sweepPage, sweepQueue, freedLabels, freedHeap, planOf, begun, afterHints, afterRoots, afterSweep, Collection, plainly, collection}
+use Rattle.rules.specs.Calls.{refused, accepted, start, withObject, allocate, load, mayStore, store}
+use Rattle.rules.specs.Collection.{hintPage, hintPages, takePage, withRoom, top, put, copyObject, forward, forwardRoots, sweepReference, sweepReferences, sweepPage, sweepQueue, freedLabels, freedHeap, planOf, begun, afterHints, afterRoots, afterSweep, collection}
 use Rattle.rules.specs.Collect.{unhinted, hasRoom, refusalOfCollect, CollectOutcome, refusedCollect, acceptedCollect, collect}
 
 -- P 8, T 6, on memory that held something else

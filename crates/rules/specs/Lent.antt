@@ -30,6 +30,9 @@ relabelled r l = record { page = r .page; pages = r .pages; label = l; opened = 
 unfoldable pub isLaidOut : ℕ → ℕ → ℕ → ℕ → ℕ → Bool
 isLaidOut heap labels links P T = isShape P T && (eqb heap (T * P) && (eqb labels T && eqb links T))
 
+abbrev pub isLaid : Lent → ℕ → ℕ → Bool
+isLaid m P T = isLaidOut (length (m .heap)) (length (m .labels)) (length (m .links)) P T
+
 -- "current label, 1 or 2"
 unfoldable pub isLabel : ℕ → Bool
 isLabel l = eqb l 1 || eqb l 2
@@ -42,6 +45,4 @@ isOpen labels r =
 
 -- not refused 1: lengths, P, T and record are right
 unfoldable pub isValid : Lent → Bool
-isValid m =
-    isLaidOut (length (m .heap)) (length (m .labels)) (length (m .links)) (m .rec .page) (m .rec .pages)
-    && (isLabel (m .rec .label) && isOpen (m .labels) (m .rec))
+isValid m = isLaid m (m .rec .page) (m .rec .pages) && (isLabel (m .rec .label) && isOpen (m .labels) (m .rec))

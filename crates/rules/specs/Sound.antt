@@ -54,7 +54,7 @@ pub record IsObject (m : Lent) (a : ℕ) : Type 0 where
   pub inUse : InUse m (a / m .rec .page)
   pub met : List·Memᴰ a (starts m (a / m .rec .page))
 
--- how many references the object at x has; its size in words, header and all; its payload word i
+-- how many references the object at x has, and its payload word i
 abbrev pub refs : Lent → ℕ → ℕ
 refs m x = refsOf (at (m .heap) x)
 

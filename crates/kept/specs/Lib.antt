@@ -1,0 +1,9 @@
+pub mod Words
+pub mod WalkMore
+pub mod FreePage
+pub mod Refusals
+pub mod Accepted
+pub mod Start
+pub mod Store
+pub mod Place
+pub mod Allocate

@@ -1,0 +1,31 @@
+-- Words of a list after stores into it: those stored, and all the others. Nothing here knows of pages or objects.
+use mathlib.Core.Path.{_≡_, refl, _∙_}
+use mathlib.Core.Logic.{_⊎_, inl, inr}
+use mathlib.Core.List.{List, [], _∷_}
+use Prim.Native.Nat.{ℕ, zero, suc, _+_, _≤_, _<_}
+use native.Mathlib.Nat.{add-zero}
+use native.Mathlib.Omega.{arith}
+use lib.ListN.{length, set, replicate, length-set}
+use lib.Seq.{sets, getD-set-same, getD-set-other}
+use Rattle.rules.specs.Ranges.{at}
+
+-- every word of a list of zeros is 0, and so is what stands past its end
+pub zeros-at : (n w : ℕ) → at (replicate n 0) w ≡ 0
+zeros-at zero w = refl
+zeros-at (suc n) zero = refl
+zeros-at (suc n) (suc w) = zeros-at n w
+
+-- a word before the first stored, or behind the last, stays
+pub sets-other : (l : List ℕ) (i : ℕ) (vs : List ℕ) (w : ℕ) → (w < i) ⊎ (i + length vs ≤ w) → at (sets l i vs) w ≡ at l w
+sets-other l i [] w h = refl
+sets-other l i (v ∷ vs) w (inl h) = sets-other (set l i v) (suc i) vs w (inl (omega arith)) ∙ getD-set-other l i w v 0 (omega arith)
+sets-other l i (v ∷ vs) w (inr h) = sets-other (set l i v) (suc i) vs w (inr (omega arith)) ∙ getD-set-other l i w v 0 (omega arith)
+
+-- the k-th word stored stands k words on
+pub sets-in : (l : List ℕ) (i : ℕ) (vs : List ℕ) (k : ℕ) → k < length vs → i + length vs ≤ length l → at (sets l i vs) (i + k) ≡ at vs k
+sets-in l i [] k h f = absurd (omega arith)
+sets-in l i (v ∷ vs) zero h f =
+    rw add-zero (sets-other (set l i v) (suc i) vs i (inl (omega arith)) ∙ getD-set-same l i v 0 (omega arith))
+sets-in l i (v ∷ vs) (suc k) h f =
+    let e : i + suc k ≡ suc i + k = omega arith in
+    rw e (sets-in (set l i v) (suc i) vs k (omega arith) (rw length-set (omega arith)))
