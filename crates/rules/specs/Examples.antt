@@ -1,9 +1,11 @@
 -- The definitions are tried: antt computes document 01's session, collection by collection, and a handful of small cases.
 -- Everything here is closed, and every proof is refl: both sides compute to one thing.
 use mathlib.Core.Path.{_≡_, refl}
+use mathlib.Core.Bool.{true, false}
 use mathlib.Core.List.{List, [], _∷_}
-use Prim.Native.Nat.{ℕ}
+use Prim.Native.Nat.{ℕ, _+_, _*_}
 use lib.ListN.{take, drop, replicate}
+use Rattle.rules.specs.declared.Found.the-variants.{Start, Inside, Nothing}
 use Rattle.rules.specs.Ranges.{at, from, block, each, has, count, first}
 use Rattle.rules.specs.Header.{headerOf, sizeOf, refsOf, isHeader}
 use Rattle.rules.specs.Pages.{isPageSize, pageAtStart, isShape, pageNamed, pagesNamed, isFree, lowestFree, pagesUsed, pagesUnhinted, pagesNeeded, otherLabel}
@@ -34,6 +36,10 @@ roots8 = 24 ∷ 32 ∷ 40 ∷ 44 ∷ []
 unfoldable record14 : CollectOutcome
 record14 = collect (record8 .lent) roots8 (34 ∷ 24 ∷ [])
 
+-- P 8, T 5: with one page in use N is 4, and 3k + 2 is 5
+unfoldable small : Lent
+small = allocate (start (record { heap = replicate 40 7; labels = replicate 5 7; links = replicate 5 7; rec = fresh .rec }) 8 5 .lent) 7 0 .lent
+
 -- an object with a reference to itself, and a data word that looks like an address
 unfoldable itself : Lent
 itself = store (store (allocate fresh 2 1 .lent) 8 0 8 .lent) 8 1 8 .lent
@@ -43,6 +49,23 @@ unfoldable across : Lent
 across = store (allocate (allocate fresh 7 1 .lent) 1 0 .lent) 8 0 16 .lent
 
 record Examples : Type 0 where
+  -- header words: d 1 and p 1 with just enough room; p = n, n = 0, an even word, too little room
+  header : isHeader (headerOf 1 1) 2 ≡ true
+  header-refs : isHeader (2 * 65536 + 2 * 2 + 1) 8 ≡ false
+  header-none : isHeader 1 8 ≡ false
+  header-even : isHeader (2 * 65536) 8 ≡ false
+  header-room : isHeader (headerOf 1 1) 1 ≡ false
+  -- the walk of page 1 of the session, and what look-up finds on it
+  walked : starts after6 1 ≡ 8 ∷ 12 ∷ []
+  stopped : stop (allocate fresh 3 1 .lent) 1 ≡ 12
+  found-start : lookUp after6 12 ≡ Start (headerOf 3 0)
+  found-inside : lookUp after6 15 ≡ Inside 12
+  found-nothing : lookUp (allocate fresh 3 1 .lent) 12 ≡ Nothing
+  found-page0 : lookUp after6 0 ≡ Nothing
+  -- a start, and P = 0
+  default : start (record { heap = replicate 384 7; labels = replicate 3 7; links = replicate 3 7; rec = fresh .rec }) 0 3 .lent .rec .page ≡ 128
+  -- 3k + 2 is one too many
+  k1 : allocate small 7 0 .refusal ≡ 3
   -- records 1 to 4, 7: the addresses, and the refusal
   r1 : allocate fresh 3 1 .value ≡ 8
   r4 : allocate (allocate (allocate (allocate fresh 3 1 .lent) 3 0 .lent) 4 0 .lent) 2 0 .value ≡ 21
@@ -54,7 +77,7 @@ record Examples : Type 0 where
   r8-labels : record8 .lent .labels ≡ 0 ∷ 0 ∷ 0 ∷ 2 ∷ 2 ∷ 2 ∷ []
   r8-reference : at (record8 .lent .heap) 25 ≡ 40
   r8-freed : take 24 (record8 .lent .heap) ≡ replicate 24 0
-  r8-sound : isSound (record8 .lent) ≡ isSound fresh
+  r8-sound : isSound (record8 .lent) ≡ true
   -- records 9 and 12: no room
   r9 : collect (record8 .lent) roots8 [] .refusal ≡ 8
   r12 : collect (record8 .lent) roots8 (34 ∷ 23 ∷ []) .refusal ≡ 8
@@ -77,8 +100,21 @@ record Examples : Type 0 where
   root : collect across (9 ∷ []) [] .refusal ≡ 6
 
 examples : Examples
-unfolding from block each has count first headerOf sizeOf refsOf isHeader isPageSize pageAtStart isShape pageNamed pagesNamed isFree lowestFree pagesUsed pagesUnhinted pagesNeeded otherLabel isLaidOut isLabel isOpen isValid walk behind starts stop isInUse isStart isReference landing lookUp isBlank refsGood isUsedSound isPageSound isFillSound isSound refused accepted start withObject allocate load mayStore store hintPage hintPages takePage withRoom top put copyObject forward forwardRoots sweepReference sweepReferences sweepPage sweepQueue freedLabels freedHeap planOf begun afterHints afterRoots afterSweep collection unhinted hasRoom refusalOfCollect refusedCollect acceptedCollect collect fresh after4 after6 record8 roots8 record14 itself across
+unfolding from block each has count first headerOf sizeOf refsOf isHeader isPageSize pageAtStart isShape pageNamed pagesNamed isFree lowestFree pagesUsed pagesUnhinted pagesNeeded otherLabel isLaidOut isLabel isOpen isValid walk behind starts stop isInUse isStart isReference landing lookUp isBlank refsGood isUsedSound isPageSound isFillSound isSound refused accepted start withObject allocate load mayStore store hintPage hintPages takePage withRoom top put copyObject forward forwardRoots sweepReference sweepReferences sweepPage sweepQueue freedLabels freedHeap planOf begun afterHints afterRoots afterSweep collection unhinted hasRoom refusalOfCollect refusedCollect acceptedCollect collect fresh small after4 after6 record8 roots8 record14 itself across
 examples = record {
+  header = refl;
+  header-refs = refl;
+  header-none = refl;
+  header-even = refl;
+  header-room = refl;
+  walked = refl;
+  stopped = refl;
+  found-start = refl;
+  found-inside = refl;
+  found-nothing = refl;
+  found-page0 = refl;
+  default = refl;
+  k1 = refl;
   r1 = refl;
   r4 = refl;
   r7 = refl;

@@ -1,0 +1,68 @@
+// Document 01's edges, run on the code: a line for each, what was asked and what it answers. Its stdout is what the paper
+// says. The starred ones are also one table under one theorem (rules/specs/Edges.antt).
+
+// A line: the question and its answer.
+fn line(asked: &[u8], answer: u64) {
+    io::write_all(1, asked);
+    io::print_decimal(1, answer);
+    io::write_all(1, b"\n");
+}
+
+fn headers() {
+    line(b"* header of d 3, p 1: ", layout::header::header_of(3, 1));
+    line(b"* header of d 0, p 0: ", layout::header::header_of(0, 0));
+    line(b"* header of d 7, p 7: ", layout::header::header_of(7, 7));
+}
+
+fn page(asked: &[u8], word: u32) {
+    line(asked, solver::fouterpin_page_named(word, 8, 6) as u64);
+}
+
+fn pages() {
+    page(b"* page named by word 7 with P 8, T 6: ", 7);
+    page(b"* page named by word 8: ", 8);
+    page(b"* page named by word 47: ", 47);
+    page(b"* page named by word 48: ", 48);
+}
+
+fn needed() {
+    line(
+        b"* pages needed for k' 0: ",
+        solver::fouterpin_pages_needed(0) as u64,
+    );
+    line(
+        b"* pages needed for k' 1: ",
+        solver::fouterpin_pages_needed(1) as u64,
+    );
+    line(
+        b"* pages needed for k' 2: ",
+        solver::fouterpin_pages_needed(2) as u64,
+    );
+    line(
+        b"pages needed for k' 4095: ",
+        solver::fouterpin_pages_needed(4095) as u64,
+    );
+    line(
+        b"pages needed for k' 4096: ",
+        solver::fouterpin_pages_needed(4096) as u64,
+    );
+}
+
+// 1 for a shape that is good.
+fn shape(asked: &[u8], page: u32, pages: u32) {
+    line(asked, layout::pages::is_shape(page, pages) as u64);
+}
+
+fn shapes() {
+    shape(b"P 12, T 6 is good: ", 12, 6);
+    shape(b"P 2048, T 6 is good: ", 2048, 6);
+    shape(b"P 8, T 2 is good: ", 8, 2);
+    shape(b"P 8, T 3 is good: ", 8, 3);
+}
+
+fn main() {
+    headers();
+    pages();
+    needed();
+    shapes();
+}
