@@ -18,8 +18,8 @@ use Rattle.rules.specs.Calls.{Outcome, accepted, newPage, allocate}
 use Rattle.laws.specs.Headers.{header-zero}
 use Rattle.laws.specs.Pages.{on-page}
 use Rattle.laws.specs.Walk.{Steps, stops, page-steps}
-use Rattle.kept.specs.FreePage.{FreeIn, lowest-free}
-use Rattle.kept.specs.WalkMore.{page-pos, label-used, met-object}
+use Rattle.laws.specs.FreePage.{FreeIn, lowest-free}
+use Rattle.laws.specs.Objects.{page-pos, label-used, met-object}
 use Rattle.kept.specs.Refusals.{allocate-refused}
 use Rattle.kept.specs.Accepted.{AtFill, OnNewPage, AllocateOk, allocate-says}
 use Rattle.kept.specs.Place.{Place, placed-sound}

@@ -1,6 +1,3 @@
-pub mod Words
-pub mod WalkMore
-pub mod FreePage
 pub mod Refusals
 pub mod Accepted
 pub mod Start

@@ -21,8 +21,9 @@ use Rattle.laws.specs.Pages.{on-page}
 use Rattle.laws.specs.Valid.{Layout, valid-layout, page-within}
 use Rattle.laws.specs.LookUp.{placed}
 use Rattle.laws.specs.Walk.{size, Steps, page-steps, met-below, steps-upto}
-use Rattle.kept.specs.Words.{zeros-at, sets-other, sets-in}
-use Rattle.kept.specs.WalkMore.{steps-snoc, steps-page, page-kept, page-pos, label-used, met-page, met-object, object-page}
+use Rattle.laws.specs.Words.{zeros-at, sets-other, sets-in}
+use Rattle.laws.specs.Walks.{steps-snoc, steps-page, page-kept}
+use Rattle.laws.specs.Objects.{page-pos, label-used, met-page, met-object, object-page}
 
 -- Room for an object of d payload words, p of them references, at offset f of page g: the walk of the page meets `met` and
 -- stops at f, and only zeros follow. `labels` are the labels after the call: they differ at most in that g is in use.

@@ -12,7 +12,7 @@ use Rattle.rules.specs.Sound.{InUse, Sound}
 use Rattle.rules.specs.Calls.{Outcome, accepted, started, start}
 use Rattle.laws.specs.Pages.{size-power}
 use Rattle.laws.specs.Valid.{Layout, layout-says}
-use Rattle.kept.specs.Words.{zeros-at}
+use Rattle.laws.specs.Words.{zeros-at}
 use Rattle.kept.specs.Accepted.{start-says}
 
 -- of P and T that are good

@@ -16,7 +16,8 @@ use Rattle.laws.specs.Pages.{on-page}
 use Rattle.laws.specs.Valid.{valid-layout}
 use Rattle.laws.specs.LookUp.{placed}
 use Rattle.laws.specs.Walk.{size, page-steps, met-below, steps-upto}
-use Rattle.kept.specs.WalkMore.{steps-page, page-kept, label-used, met-object, object-page, objects-apart, page-pos}
+use Rattle.laws.specs.Walks.{steps-page, page-kept}
+use Rattle.laws.specs.Objects.{label-used, met-object, object-page, objects-apart, page-pos}
 use Rattle.kept.specs.Refusals.{load-refused, store-refused}
 use Rattle.kept.specs.Accepted.{load-says, StoreOk, store-says}
 

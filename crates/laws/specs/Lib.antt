@@ -3,6 +3,10 @@ pub mod Headers
 pub mod Walk
 pub mod Pages
 pub mod Valid
+pub mod Words
+pub mod FreePage
+pub mod Walks
+pub mod Objects
 pub mod LookUp
 pub mod Sound
 pub mod Safe

@@ -1,5 +1,5 @@
 -- Soundness as a test and as a proposition agree, on every memory: `sound-says` and `sound-is`.
-use mathlib.Core.Path.{_≡_, refl, sym, ap, _∙_, subst}
+use mathlib.Core.Path.{_≡_, refl, sym, ap, _∙_}
 use mathlib.Core.Logic.{_≢_, _⊎_, inl, inr}
 use mathlib.Core.Bool.{Bool, true, false, cond, _&&_}
 use mathlib.Core.List.{List, [], _∷_, List·Memᴰ, List·Memᴰ·head, List·Memᴰ·not-nil}
@@ -18,8 +18,9 @@ use Rattle.rules.specs.Walk.{starts, stop, isReference}
 use Rattle.rules.specs.Sound.{isBlank, refsGood, isUsedSound, isPageSound, isFillSound, isSound, InUse, IsObject, refs, payload, Valid, Sound}
 use Rattle.laws.specs.Lists.{each-true, true-each, each-block, block-each}
 use Rattle.laws.specs.Pages.{on-page, page-on, split-page}
-use Rattle.laws.specs.Valid.{Layout, valid-says, valid-is, valid-layout}
-use Rattle.laws.specs.Walk.{page-steps, met, steps-upto}
+use Rattle.laws.specs.Valid.{Layout, valid-says, valid-is, valid-layout, label-pos}
+use Rattle.laws.specs.Walk.{page-steps, steps-upto}
+use Rattle.laws.specs.Objects.{met-object}
 use Rattle.laws.specs.LookUp.{reference-says, reference-is}
 
 -- ---- zeros and references
@@ -91,13 +92,6 @@ member a (x ∷ xs) k = omega arith
 first-of : (xs : List ℕ) → 1 ≤ length xs → (a : ℕ) × List·Memᴰ a xs
 first-of [] h = absurd (omega arith)
 first-of (x ∷ xs) h = (x, List·Memᴰ·head refl)
-
-label-pos : (m : Lent) → Valid m → m .rec .label ≢ 0
-label-pos m v z = go (v .label)
-  where
-    go : (m .rec .label ≡ 1) ⊎ (m .rec .label ≡ 2) → ⊥
-    go (inl q) = omega arith
-    go (inr q) = omega arith
 
 module _ (m : Lent) where
   pub sound-says : isSound m ≡ true → Sound m
@@ -188,15 +182,9 @@ module _ (m : Lent) where
       us g u = record {
         label = u .label;
         some = member (S .some g u .0) (starts m g) (S .some g u .1);
-        references = λ x k i h. S .references x i (ob x k) h;
+        references = λ x k i h. S .references x i (met-object m pos g x u k) h;
         tail = λ w lo hi. S .tail g w u (on-page pos w g (omega (arith, steps-upto (page-steps m g) .0)) hi) lo;
       }
-        where
-          ob : (x : ℕ) → List·Memᴰ x (starts m g) → IsObject m x
-          ob x k =
-              let M = met (m .heap) (page-steps m g) x k in
-              let pg : x / m .rec .page ≡ g = on-page pos x g (M .from) (M .upto) in
-              record { inUse = subst (InUse m) (sym pg) u; met = subst (λ (j : ℕ). List·Memᴰ x (starts m j)) (sym pg) k }
 
       pg : (g : ℕ) → 1 ≤ g → g < m .rec .pages → (at (m .labels) g ≡ 0) ⊎ (at (m .labels) g ≡ m .rec .label) → isPageSound m g ≡ true
       pg g lo hi (inl z) = rw (eq-eqb _ _ z) (blank-is (m .heap) _ _ (λ w a b. S .blank w (ap (at (m .labels)) (on-page pos w g a b) ∙ z)))

@@ -1,7 +1,7 @@
 -- That nothing is refused 1 is a test, `isValid`, and a proposition, `Valid`: they agree. Beside them `Layout`, the plain
 -- numbers that code needs of it.
 use mathlib.Core.Path.{_≡_, refl}
-use mathlib.Core.Logic.{_⊎_, inl, inr}
+use mathlib.Core.Logic.{_≢_, _⊎_, inl, inr}
 use mathlib.Core.Bool.{Bool, true, false, cond, _&&_, _||_}
 use Prim.Native.Nat.{ℕ, _+_, _*_, _≤_, _<_}
 use native.Mathlib.Decide.{ℕ-discrete}
@@ -146,3 +146,11 @@ module _ (m : Lent) where
       go : ((m .rec .opened ≡ 0) × (m .rec .fill ≡ m .rec .page)) ⊎ Opened m → (m .rec .opened < m .rec .pages) × (m .rec .fill ≤ m .rec .page)
       go (inl (z, f)) = (omega (arith, v .pages .0), omega arith)
       go (inr o) = (o .page .high, o .high)
+
+  -- the current label is not that of a free page
+  pub label-pos : Valid m → m .rec .label ≢ 0
+  label-pos v z = go (v .label)
+    where
+      go : (m .rec .label ≡ 1) ⊎ (m .rec .label ≡ 2) → ⊥
+      go (inl q) = omega arith
+      go (inr q) = omega arith
