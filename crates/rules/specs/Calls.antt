@@ -11,12 +11,13 @@ use Prim.Native.Nat.{ℕ, _+_, _*_, _-_}
 use lib.ListN.{length, set, replicate}
 use lib.Seq.{sets}
 use lib.Dec.{leb, ltb}
+use Rattle.rules.specs.declared.Answer.{Answer}
 use Rattle.rules.specs.declared.Found.{Found}
 use Rattle.rules.specs.declared.Found.the-variants.{Start, Inside, Nothing}
 use Rattle.rules.specs.Ranges.{at}
 use Rattle.rules.specs.Header.{headerOf, sizeOf, refsOf}
 use Rattle.rules.specs.Pages.{pageAtStart, lowestFree, pagesUsed}
-use Rattle.rules.specs.Lent.{Lent, opening, isLaid, isValid}
+use Rattle.rules.specs.Lent.{Lent, lent, opening, isLaid, isValid}
 use Rattle.rules.specs.Walk.{isReference, lookUp, refusalOf}
 
 -- the refusal's number, 0 if accepted; the value; and what was lent, with the record, as the call leaves it
@@ -24,6 +25,10 @@ pub record Outcome : Type 0 where
   pub refusal : ℕ
   pub value : ℕ
   pub lent : Lent
+
+-- the code's answer, with the heap, labels and links that it leaves
+abbrev pub outcome : Answer → List ℕ → List ℕ → List ℕ → Outcome
+outcome x heap labels links = record { refusal = x .refusal; value = x .value; lent = lent heap labels links (x .rec) }
 
 -- "A refused call returns its number, value 0 .. and the record it was given .., and every lent word, label, link .. stays
 -- the same."

@@ -4,9 +4,10 @@ use mathlib.Core.List.{List}
 use Prim.Native.Nat.{ℕ, _-_}
 use lib.ListN.{length}
 use lib.Dec.{eqb, ltb}
+use Rattle.rules.specs.declared.Collected.{Collected}
 use Rattle.rules.specs.Ranges.{each}
 use Rattle.rules.specs.Pages.{pagesNamed, pagesUsed, pagesUnhinted, pagesNeeded}
-use Rattle.rules.specs.Lent.{Lent, isValid}
+use Rattle.rules.specs.Lent.{Lent, lent, isValid}
 use Rattle.rules.specs.Walk.{isReference}
 use Rattle.rules.specs.Sound.{isSound}
 use Rattle.rules.specs.Collection.{Collection, plainly, collection}
@@ -34,6 +35,18 @@ pub record CollectOutcome : Type 0 where
   pub words : ℕ
   pub lent : Lent
   pub roots : List ℕ
+
+-- the code's answer, with the heap, labels, links and root cells that it leaves
+abbrev pub collectOutcome : Collected → List ℕ → List ℕ → List ℕ → List ℕ → CollectOutcome
+collectOutcome x heap labels links roots = record {
+  refusal = x .refusal;
+  hinted = x .hinted;
+  taken = x .taken;
+  objects = x .objects;
+  words = x .words;
+  lent = lent heap labels links (x .rec);
+  roots = roots;
+}
 
 unfoldable pub refusedCollect : ℕ → Lent → List ℕ → CollectOutcome
 refusedCollect e m roots = record { refusal = e; hinted = 0; taken = 0; objects = 0; words = 0; lent = m; roots = roots }
