@@ -25,7 +25,8 @@ use Rattle.laws.specs.Valid.{valid-says, valid-layout}
 use Rattle.laws.specs.LookUp.{reference-says, found-object}
 use Rattle.laws.specs.Sound.{sound-says}
 use Rattle.laws.specs.Walk.{size}
-use Rattle.kept.specs.Refusals.{by-test, by-look-up, collect-refusal}
+use Rattle.kept.specs.Refusals.{by-test, by-look-up}
+use Rattle.laws.specs.Collect.{collect-refusal}
 
 -- no refusal but 0 is 0
 not-accepted : {A : Type 0} (e : ℕ) (m : Lent) → 1 ≤ e → refused e m .refusal ≡ 0 → A

@@ -18,7 +18,7 @@ use Rattle.rules.specs.Calls.{Outcome, accepted, newPage, allocate}
 use Rattle.laws.specs.Headers.{header-zero}
 use Rattle.laws.specs.Pages.{on-page}
 use Rattle.laws.specs.Walk.{Steps, stops, page-steps}
-use Rattle.laws.specs.FreePage.{FreeIn, lowest-free}
+use Rattle.laws.specs.FreePages.{Lowest, lowest-free}
 use Rattle.laws.specs.Objects.{page-pos, label-used, met-object}
 use Rattle.kept.specs.Refusals.{allocate-refused}
 use Rattle.kept.specs.Accepted.{AtFill, OnNewPage, AllocateOk, allocate-says}
@@ -71,7 +71,7 @@ module _ (m : Lent) (S : Sound m) (d p : ℕ) where
       g : ℕ
       g = newPage m
 
-      new : FreeIn (m .labels) 1 (m .rec .pages) (newPage m)
+      new : Lowest (m .labels) 1 (m .rec .pages)
       new = lowest-free (m .labels) 1 (m .rec .pages) (omega arith)
 
       pos : 0 < m .rec .page

@@ -1,13 +1,13 @@
 -- Refusals: the number that each call gives, as the chain of its tests; and that a refused call changes nothing and answers
 -- zeros. All of it holds of every memory, sound or not.
-use mathlib.Core.Path.{_≡_, refl, sym, ap, _∙_}
+use mathlib.Core.Path.{_≡_, refl, ap, _∙_}
 use mathlib.Core.Logic.{_≢_}
 use mathlib.Core.Bool.{Bool, true, false, cond}
 use mathlib.Core.List.{List}
 use Prim.Native.Nat.{ℕ, _-_}
 use native.Mathlib.Omega.{arith}
-use lib.Dec.{eqb, ltb}
-use borrow.Author.Tests.{eqb-true, ne-eqb}
+use lib.Dec.{ltb}
+use borrow.Author.Tests.{ne-eqb}
 use Rattle.rules.specs.declared.Found.{Found}
 use Rattle.rules.specs.declared.Found.the-variants.{Start, Inside, Nothing}
 use Rattle.rules.specs.Ranges.{at}
@@ -16,9 +16,9 @@ use Rattle.rules.specs.Pages.{pageAtStart}
 use Rattle.rules.specs.Lent.{Lent, isLaid, isValid}
 use Rattle.rules.specs.Walk.{isStart, lookUp}
 use Rattle.rules.specs.Calls.{Outcome, refused, accepted, start, goodShape, fitsOpen, mayTake, allocate, onStart, load, mayStore, store}
-use Rattle.rules.specs.Collection.{plainly, collection}
-use Rattle.rules.specs.Collect.{CollectOutcome, refusalOfCollect, refusedCollect, acceptedCollect, collect}
+use Rattle.rules.specs.Collect.{CollectOutcome, refusalOfCollect, refusedCollect, collect}
 use Rattle.laws.specs.LookUp.{wasStart, found-start, found-is}
+use Rattle.laws.specs.Collect.{collect-refusal}
 
 -- what holds where a test passes, and where it does not, holds
 pub by-test : {A : Type 0} (Q : A → Type 0) (b : Bool) (x y : A) → (b ≡ true → Q x) → (b ≡ false → Q y) → Q (cond b x y)
@@ -77,15 +77,6 @@ store-refusal m a i v =
     cond-refusal (isValid m) _ _
     (on-start-refusal m a _ ∙ ap (λ (n : ℕ). cond (isStart m a) n 4)
     (cond-refusal (ltb i (sizeOf (at (m .heap) a) - 1)) _ _ (cond-refusal (mayStore m (at (m .heap) a) i v) _ _ refl refl) refl)) refl
-
-pub collect-refusal : (m : Lent) (roots hints : List ℕ) → collect m roots hints .refusal ≡ refusalOfCollect m roots hints
-unfolding collect acceptedCollect refusedCollect
-collect-refusal m roots hints =
-    go (refusalOfCollect m roots hints) (acceptedCollect (collection plainly m roots hints)) refl (eqb (refusalOfCollect m roots hints) 0) refl
-  where
-    go : (e : ℕ) (o : CollectOutcome) → o .refusal ≡ 0 → (b : Bool) → eqb e 0 ≡ b → cond b o (refusedCollect e m roots) .refusal ≡ e
-    go e o z true q = z ∙ sym (eqb-true e 0 q)
-    go e o z false q = refl
 
 -- ---- a refused call changes nothing
 

@@ -4,9 +4,10 @@ pub mod Walk
 pub mod Pages
 pub mod Valid
 pub mod Words
-pub mod FreePage
+pub mod FreePages
 pub mod Walks
 pub mod Objects
 pub mod LookUp
 pub mod Sound
 pub mod Safe
+pub mod Collect

@@ -1,8 +1,8 @@
 -- How objects lie: on their pages, and apart from each other.
 use mathlib.Core.Path.{_≡_, refl, sym, _∙_, subst}
-use mathlib.Core.Logic.{_≢_, _⊎_, inl, inr}
-use mathlib.Core.List.{List, List·Memᴰ, List·Memᴰ·cases-cons, List·Memᴰ·not-nil}
-use Prim.Native.Nat.{ℕ, _+_, _*_, _-_, _/_, _≤_, _<_}
+use mathlib.Core.Logic.{_≢_}
+use mathlib.Core.List.{List·Memᴰ}
+use Prim.Native.Nat.{ℕ, _+_, _*_, _/_, _≤_, _<_}
 use native.Mathlib.Decide.{ℕ-discrete, decLt}
 use native.Mathlib.Omega.{arith}
 use Rattle.rules.specs.Ranges.{at}
@@ -11,20 +11,7 @@ use Rattle.rules.specs.Walk.{starts}
 use Rattle.rules.specs.Sound.{InUse, IsObject, Valid}
 use Rattle.laws.specs.Pages.{on-page, page-on, page-end}
 use Rattle.laws.specs.Valid.{valid-layout, label-pos}
-use Rattle.laws.specs.Walk.{size, Steps, stops, step, page-steps, Met, met}
-
--- two objects of a walk do not meet
-pub met-apart : (h : List ℕ) {a room z : ℕ} {l : List ℕ} → Steps h a room l z → (b d : ℕ) → List·Memᴰ b l → List·Memᴰ d l → b < d → b + size h b ≤ d
-met-apart h (stops e) b d m k lt = absurd (List·Memᴰ·not-nil m)
-met-apart h (step {a = a} {room = room} {z = z} {l = l} e r) b d m k lt =
-    go (λ p q. met-apart h r b d p q lt) (λ x p. met h r x p) (List·Memᴰ·cases-cons m) (List·Memᴰ·cases-cons k)
-  where
-    go : (List·Memᴰ b l → List·Memᴰ d l → b + size h b ≤ d) → ((x : ℕ) → List·Memᴰ x l → Met h (a + size h a) (room - size h a) x)
-        → (b ≡ a) ⊎ List·Memᴰ b l → (d ≡ a) ⊎ List·Memᴰ d l → b + size h b ≤ d
-    go ih mt (inl p) (inl q) = absurd (omega arith)
-    go ih mt (inl p) (inr q) = rw p (mt d q .from)
-    go ih mt (inr p) (inl q) = absurd (omega (arith, mt b p .from))
-    go ih mt (inr p) (inr q) = ih p q
+use Rattle.laws.specs.Walk.{met-apart, size, page-steps, Met, met}
 
 -- a page has words
 pub page-pos : (m : Lent) → Valid m → 0 < m .rec .page

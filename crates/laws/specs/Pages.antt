@@ -1,18 +1,19 @@
 -- Laws of pages, once for all P: their size, where they lie, and which page an address is on.
 use mathlib.Core.Path.{_≡_, refl, sym, ap, _∙_}
-use mathlib.Core.Logic.{inl, inr}
+use mathlib.Core.Logic.{inl, inr, _≢_, _⊎_}
 use mathlib.Core.Bool.{Bool, true, false, cond, _&&_, or-true, and-false}
 use mathlib.Core.List.{List, [], _∷_, map, List·Memᴰ, Memᴰ·cast, Memᴰ·map, Memᴰ·of-map}
-use Prim.Native.Nat.{ℕ, _+_, _*_, _-_, _/_, _%_, _≤_, _<_, _^_}
+use Prim.Native.Nat.{ℕ, _+_, _*_, _-_, _/_, _%_, _≤_, _<_, _^_, suc}
 use native.Mathlib.Nat.{div-zero, mul-add-div-right, div-eq-of-lt, add-zero, div-add-mod', mod-lt, mul-le-mul, mul-le-mul-right, suc-mul}
 use native.Mathlib.Omega.{arith}
 use types.Run.{OneOf}
 use lib.Dec.{leb, ltb}
 use borrow.Author.Tests.{leb-true, eq-eqb, ne-eqb, le-leb, lt-leb, lt-ltb, le-ltb}
 use Rattle.rules.specs.Tests.{and-left, and-right}
-use Rattle.rules.specs.Ranges.{from, block, each, has}
+use Rattle.rules.specs.Ranges.{from, block, each, has, at}
 use Rattle.rules.specs.Pages.{pageSizes, isPageSize, isShape, pageNamed}
 use Rattle.laws.specs.Lists.{has-mem, mem-has, each-true, block-mem, mem-block}
+use native.Mathlib.Decide.{decLt}
 
 -- ---- page sizes
 
@@ -100,6 +101,24 @@ pub page-on : {P : ℕ} → 0 < P → (w g : ℕ) → w / P ≡ g → (g * P ≤
 page-on {P} pos w g q =
     let k : w / P * P ≡ g * P = ap (λ (j : ℕ). j * P) q in
     (omega (arith, split-page P w), omega (arith, split-page P w, mod-lt w pos))
+
+-- the words of an object that fits its page lie on its page
+pub same-page : {P : ℕ} → 0 < P → (x n i : ℕ) → x % P + n ≤ P → i < n → (x + i) / P ≡ x / P
+same-page {P} pos x n i fits h =
+    let e : x + i ≡ x / P * P + (x % P + i) = omega (arith, split-page P x) in
+    ap (λ (k : ℕ). k / P) e ∙ page-of pos (x / P) (x % P + i) (omega arith)
+
+-- a page's first word is on it
+pub first-on-page : {P : ℕ} → 0 < P → (g : ℕ) → g * P / P ≡ g
+first-on-page pos g = simp add-zero at (page-of pos g 0 pos)
+
+-- objects on different pages do not meet
+pub pages-apart : (P x n y m : ℕ) → x % P + n ≤ P → y % P + m ≤ P → x / P ≢ y / P → (x + n ≤ y) ⊎ (y + m ≤ x)
+pages-apart P x n y m fx fy ne = go (decLt (x / P) (y / P))
+  where
+    go : Dec (x / P < y / P) → (x + n ≤ y) ⊎ (y + m ≤ x)
+    go (yes l) = inl (let q : suc (x / P) * P ≤ y / P * P = mul-le-mul-right P l in omega (arith, split-page P x, split-page P y))
+    go (no l) = inr (let q : suc (y / P) * P ≤ x / P * P = mul-le-mul-right P (omega arith) in omega (arith, split-page P x, split-page P y))
 
 -- ---- the page that a word names
 

@@ -3,7 +3,7 @@
 use mathlib.Core.Path.{_≡_, refl, ap, _∙_, subst}
 use mathlib.Core.Logic.{_⊎_, inl, inr}
 use mathlib.Core.Bool.{Bool, true, false, cond}
-use mathlib.Core.List.{List, [], _∷_, List·Memᴰ, List·Memᴰ·head, List·Memᴰ·cases-cons, List·Memᴰ·not-nil}
+use mathlib.Core.List.{List, [], _∷_, List·Memᴰ, List·Memᴰ·head, List·Memᴰ·tail, List·Memᴰ·cases-cons, List·Memᴰ·not-nil}
 use Prim.Native.Nat.{ℕ, zero, suc, _+_, _*_, _-_, _≤_, _<_}
 use native.Mathlib.Omega.{arith}
 use lib.ListN.{length}
@@ -163,3 +163,35 @@ met-below {h} (step {a = a} {room = room} {z = z} {l = l} e r) b m = go (λ k. m
     go : (List·Memᴰ b l → b + size h b ≤ z) → a + size h a ≤ z → (b ≡ a) ⊎ List·Memᴰ b l → b + size h b ≤ z
     go ih q (inl e) = rw e q
     go ih q (inr k) = ih k
+
+-- two objects of a walk do not meet
+pub met-apart : (h : List ℕ) {a room z : ℕ} {l : List ℕ} → Steps h a room l z → (b d : ℕ) → List·Memᴰ b l → List·Memᴰ d l → b < d → b + size h b ≤ d
+met-apart h (stops e) b d m k lt = absurd (List·Memᴰ·not-nil m)
+met-apart h (step {a = a} {room = room} {z = z} {l = l} e r) b d m k lt =
+    go (λ p q. met-apart h r b d p q lt) (λ x p. met h r x p) (List·Memᴰ·cases-cons m) (List·Memᴰ·cases-cons k)
+  where
+    go : (List·Memᴰ b l → List·Memᴰ d l → b + size h b ≤ d) → ((x : ℕ) → List·Memᴰ x l → Met h (a + size h a) (room - size h a) x)
+        → (b ≡ a) ⊎ List·Memᴰ b l → (d ≡ a) ⊎ List·Memᴰ d l → b + size h b ≤ d
+    go ih mt (inl p) (inl q) = absurd (omega arith)
+    go ih mt (inl p) (inr q) = rw p (mt d q .from)
+    go ih mt (inr p) (inl q) = absurd (omega (arith, mt b p .from))
+    go ih mt (inr p) (inr q) = ih p q
+
+-- after an object: another, or the stop
+pub met-next : (h : List ℕ) {a room z : ℕ} {l : List ℕ} → Steps h a room l z → (b : ℕ) → List·Memᴰ b l → List·Memᴰ (b + size h b) l ⊎ (b + size h b ≡ z)
+met-next h (stops e) b m = absurd (List·Memᴰ·not-nil m)
+met-next h (step {a = a} {room = room} {z = z} {l = l} e r) b m = go (λ p. met-next h r b p) (List·Memᴰ·cases-cons m) (steps-first h r)
+  where
+    up : (x : ℕ) → List·Memᴰ x l ⊎ (x ≡ z) → List·Memᴰ x (a ∷ l) ⊎ (x ≡ z)
+    up x (inl p) = inl (List·Memᴰ·tail p)
+    up x (inr q) = inr q
+
+    go : (List·Memᴰ b l → List·Memᴰ (b + size h b) l ⊎ (b + size h b ≡ z)) → (b ≡ a) ⊎ List·Memᴰ b l → List·Memᴰ (a + size h a) l ⊎ (a + size h a ≡ z)
+        → List·Memᴰ (b + size h b) (a ∷ l) ⊎ (b + size h b ≡ z)
+    go ih (inl q) f = rw q (up (a + size h a) f)
+    go ih (inr p) f = up (b + size h b) (ih p)
+
+-- a walk that meets something meets its first word
+pub met-first : (h : List ℕ) {a room z : ℕ} {l : List ℕ} → Steps h a room l z → {b : ℕ} → List·Memᴰ b l → List·Memᴰ a l
+met-first h (stops e) m = absurd (List·Memᴰ·not-nil m)
+met-first h (step e r) m = List·Memᴰ·head refl

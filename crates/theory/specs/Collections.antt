@@ -1,0 +1,64 @@
+-- What is proved of one collection, over the definitions of `rules`, for every memory, root cells and hints: where the tests of
+-- collect pass, its run is safe, what it leaves is sound, it finds its pages, and it is faithful.
+use mathlib.Core.Path.{_≡_, sym, ap, _∙_, subst}
+use mathlib.Core.List.{List}
+use Prim.Native.Nat.{ℕ, _≤_}
+use native.Mathlib.Decide.{ℕ-discrete}
+use lib.ListN.{length}
+use Rattle.rules.specs.Lent.{Lent}
+use Rattle.rules.specs.Sound.{Sound}
+use Rattle.rules.specs.Collection.{logged, plainly, Collection, planOf, collection}
+use Rattle.rules.specs.Collect.{CollectOutcome, refusalOfCollect, acceptedCollect, refusedCollect, collect}
+use Rattle.rules.specs.Demands.{Faithful, FindsPages}
+use Rattle.laws.specs.Safe.{SafeRun}
+use Rattle.theory.specs.Packing.{pagesForWords}
+use Rattle.theory.specs.Accept.{Accepted, accepted}
+use Rattle.laws.specs.Collect.{collect-accepts, collect-refuses}
+use Rattle.theory.specs.SoundHeap.{wordsUnhinted}
+use Rattle.theory.specs.Plainly.{collection-plainly, run-plainly}
+use Rattle.theory.specs.Run.{run-safe}
+use Rattle.theory.specs.After.{after-sound}
+use Rattle.theory.specs.Pairing.{outcome, Pairs, faithful}
+use Rattle.theory.specs.Taken.{finds, taken-words}
+
+module _ (m : Lent) (roots hints : List ℕ) (e : refusalOfCollect m roots hints ≡ 0) where
+  A : Accepted m roots hints
+  A = accepted m roots hints e
+
+  -- every access of its run is inside, a free page is found whenever one is needed, and counts fit
+  pub collect-safe : SafeRun (planOf m plainly) m roots hints
+  collect-safe = run-plainly m roots hints (run-safe m roots hints A)
+
+  collect-outcome : collect m roots hints ≡ outcome m roots hints A
+  collect-outcome = collect-accepts m roots hints e ∙ ap acceptedCollect (collection-plainly m roots hints)
+
+  -- "the heap stays sound"
+  pub collect-sound : Sound (collect m roots hints .lent)
+  unfolding acceptedCollect
+  collect-sound = subst Sound (sym (ap (λ (o : CollectOutcome). o .lent) collect-outcome)) (after-sound m roots hints A)
+
+  taken-same : collection plainly m roots hints .taken ≡ collection logged m roots hints .taken
+  taken-same = ap (λ (c : Collection). c .taken) (collection-plainly m roots hints)
+
+  -- "Each accepted collection finds a free page whenever it needs one"
+  pub collect-finds : FindsPages m roots hints (collection plainly m roots hints .taken)
+  unfolding collection
+  collect-finds = subst (FindsPages m roots hints) (sym taken-same) (finds m roots hints A)
+
+  -- the pages taken, by the words in objects on pages in use that no hint names
+  pub collect-few : length (collection plainly m roots hints .taken) ≤ pagesForWords (m .rec .page) (wordsUnhinted m hints)
+  unfolding collection
+  collect-few = rw taken-same (taken-words m roots hints A)
+
+  -- "The objects afterwards pair one to one with those that were on hinted pages or could be reached from them or the root cells"
+  pub collect-faithful : (Pairs : ℕ → ℕ → Type 0) × Faithful m roots hints (collect m roots hints) Pairs
+  collect-faithful = (Pairs m roots hints A, subst (λ (o : CollectOutcome). Faithful m roots hints o (Pairs m roots hints A)) (sym collect-outcome) (faithful m roots hints A))
+
+-- accepted or refused, "the heap stays sound"
+pub collect-keeps-sound : (m : Lent) (roots hints : List ℕ) → Sound m → Sound (collect m roots hints .lent)
+unfolding refusedCollect
+collect-keeps-sound m roots hints S = go (ℕ-discrete (refusalOfCollect m roots hints) 0)
+  where
+    go : Dec (refusalOfCollect m roots hints ≡ 0) → Sound (collect m roots hints .lent)
+    go (yes e) = collect-sound m roots hints e
+    go (no n) = subst Sound (sym (ap (λ (o : CollectOutcome). o .lent) (collect-refuses m roots hints n))) S

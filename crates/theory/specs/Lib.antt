@@ -1,0 +1,33 @@
+-- numbers, lists, counts
+pub mod Weights
+pub mod Packing
+pub mod Queue
+-- the invariant, and each step that keeps it
+pub mod World
+pub mod Places
+pub mod Put
+pub mod Take
+pub mod Forward
+pub mod Packs
+pub mod ForwardSafe
+pub mod Store
+pub mod Tile
+pub mod Good
+-- the sweep
+pub mod SweepReferences
+pub mod SweepPage
+pub mod SweepQueue
+-- from the tests of collect to the first state, and from the last one to what is lent after
+pub mod Hints
+pub mod Accept
+pub mod SoundHeap
+pub mod FirstState
+pub mod Run
+pub mod Plainly
+pub mod Freed
+pub mod Covers
+pub mod After
+pub mod Pairing
+pub mod Taken
+-- what is proved
+pub mod Collections

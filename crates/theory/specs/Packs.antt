@@ -1,0 +1,171 @@
+-- A free page is there whenever a copy needs one: the words copied are among those of the objects on pages that no hint names,
+-- and the pages taken are no more than those words may need.
+use mathlib.Core.Path.{_≡_, refl, sym, ap, _∙_, subst}
+use mathlib.Core.Logic.{_⊎_, inl, inr}
+use mathlib.Core.Bool.{Bool, true, false, cond}
+use mathlib.Core.List.{List, [], _∷_, _++_, List·Memᴰ, List·Memᴰ·head, List·Memᴰ·tail, List·Memᴰ·cases-cons, List·Memᴰ·append-cases, List·Memᴰ·eq-of-singleton, List·Memᴰ·not-nil, Memᴰ·cast}
+use Prim.Native.Nat.{ℕ, _+_, _*_, _≤_, _<_}
+use native.Mathlib.Nat.{add-zero, zero-add}
+use native.Mathlib.Omega.{arith}
+use lib.Dec.{leb}
+use lib.ListN.{length, length-append}
+use borrow.Author.Tests.{leb-true, leb-false}
+use Rattle.rules.specs.Ranges.{at}
+use Rattle.rules.specs.Collection.{Move, State, put, takePage, withRoom}
+use Rattle.laws.specs.Walk.{size}
+use Rattle.laws.specs.FreePages.{freePages, lowest, free-less}
+use Rattle.theory.specs.Weights.{weigh, weigh-snoc, Distinct, distinct-snoc, sub-weigh}
+use Rattle.theory.specs.Packing.{Packed, packed-same, packed-new, packed-enough, pagesForWords}
+use Rattle.theory.specs.World.{sizeAt, World, NotGone, Inv}
+use Rattle.theory.specs.Places.{some-words, old-before}
+use Rattle.theory.specs.Put.{put-moves}
+use Rattle.theory.specs.Take.{onPages, page-inside}
+use Rattle.theory.specs.Forward.{Due, Able, How, idle, copies, copied}
+
+-- ---- the objects that were copied
+
+unfoldable pub froms : List Move → List ℕ
+froms [] = []
+froms (m ∷ ms) = m .from ∷ froms ms
+
+froms-snoc : (ms : List Move) (m : Move) → froms (ms ++ (m ∷ [])) ≡ froms ms ++ (m .from ∷ [])
+unfolding froms
+froms-snoc [] m = refl
+froms-snoc (k ∷ ms) m = ap {B = List ℕ} (λ r. k .from ∷ r) (froms-snoc ms m)
+
+mem-froms : (ms : List Move) {x : ℕ} → List·Memᴰ x (froms ms) → (m : Move) × List·Memᴰ m ms × (x ≡ m .from)
+unfolding froms
+mem-froms [] h = absurd (List·Memᴰ·not-nil h)
+mem-froms (k ∷ ms) {x} h = go (λ q. mem-froms ms q) (List·Memᴰ·cases-cons h)
+  where
+    go : (List·Memᴰ x (froms ms) → (m : Move) × List·Memᴰ m ms × (x ≡ m .from)) → (x ≡ k .from) ⊎ List·Memᴰ x (froms ms) → (m : Move) × List·Memᴰ m (k ∷ ms) × (x ≡ m .from)
+    go r (inl e) = (k, List·Memᴰ·head refl, e)
+    go r (inr q) = let t : (m : Move) × List·Memᴰ m ms × (x ≡ m .from) = r q in (t .0, List·Memᴰ·tail (t .1), t .2)
+
+-- the words copied, and those that may have to be
+abbrev pub wordsOf : World → State → ℕ
+wordsOf W s = weigh (size (W .heap)) (froms (s .moves))
+
+abbrev pub wordsOld : World → ℕ
+wordsOld W = weigh (size (W .heap)) (W .olds)
+
+-- free pages of the block
+abbrev pub freeIn : World → List ℕ → ℕ
+freeIn W labels = freePages labels (W .plan .lo) (W .plan .hi)
+
+pub record Packs (W : World) (s : State) : Type 0 where
+  pub taken : ℕ
+  pub joined : length (s .pages .queue) ≡ W .hinted + taken
+  pub left : freeIn W (s .pages .labels) + taken ≡ freeIn W (W .labels)
+  pub distinct : Distinct (froms (s .moves))
+  pub packed : Packed (W .plan .page) taken (s .pages .fill) (wordsOf W s)
+  pub words : s .words ≡ wordsOf W s
+  pub objects : s .objects ≤ s .words
+  -- there is room for all
+  pub room : pagesForWords (W .plan .page) (wordsOld W) ≤ freeIn W (W .labels)
+
+-- ---- how many
+
+module _ (W : World) (s : State) (I : Inv W s) (K : Packs W s) where
+  copied-old : (z : ℕ) → List·Memᴰ z (froms (s .moves)) → List·Memᴰ z (W .olds)
+  copied-old z a = let (m, k, e) = mem-froms (s .moves) a in Memᴰ·cast e (W .all (m .from) (I .moved m k .object) (I .moved m k .old))
+
+  pub words-old : wordsOf W s ≤ wordsOld W
+  words-old = sub-weigh (size (W .heap)) (froms (s .moves)) (W .olds) (K .distinct) copied-old
+
+  -- "at most .. pages are taken", by words
+  pub packs-few : 0 < s .pages .fill → K .taken ≤ pagesForWords (W .plan .page) (wordsOld W)
+  packs-few fp = packed-enough (wordsOld W) words-old fp (K .packed)
+
+  module _ (x : ℕ) (D : Due W s x) where
+    not-gone : NotGone s x
+    not-gone m mem q =
+        let a : at (s .heap) (m .from) ≡ 2 * m .to = I .moved m mem .planted in
+        let b : at (s .heap) x ≡ at (W .heap) x = simp add-zero at (D .same 0 (some-words W x (D .object))) in
+        let f : at (s .heap) (m .from) ≡ at (s .heap) x = ap (at (s .heap)) q in
+        omega (arith, W .odd x (D .object))
+
+    not-copied : List·Memᴰ x (froms (s .moves)) → ⊥
+    not-copied h = let (m, k, e) = mem-froms (s .moves) h in not-gone m k (sym e)
+
+    pub words-left : wordsOf W s + sizeAt W x ≤ wordsOld W
+    words-left =
+        let l : List ℕ = froms (s .moves) ++ (x ∷ []) in
+        let h : weigh (size (W .heap)) l ≤ wordsOld W = sub-weigh (size (W .heap)) l (W .olds) (distinct-snoc (froms (s .moves)) x (K .distinct) not-copied) sub in
+        omega (arith, weigh-snoc (size (W .heap)) (froms (s .moves)) x)
+      where
+        sub : (z : ℕ) → List·Memᴰ z (froms (s .moves) ++ (x ∷ [])) → List·Memᴰ z (W .olds)
+        sub z h = go (List·Memᴰ·append-cases (froms (s .moves)) h)
+          where
+            go : List·Memᴰ z (froms (s .moves)) ⊎ List·Memᴰ z (x ∷ []) → List·Memᴰ z (W .olds)
+            go (inl a) = copied-old z a
+            go (inr b) = Memᴰ·cast (List·Memᴰ·eq-of-singleton b) (W .all x (D .object) (old-before W s I x (D .object) (D .old)))
+
+    -- words that do not fit find a free page
+    pub some-free : W .plan .page < s .pages .fill + sizeAt W x → 0 < freeIn W (s .pages .labels)
+    some-free lt =
+        let b : K .taken + 1 ≤ pagesForWords (W .plan .page) (wordsOld W) =
+        packed-enough (wordsOld W) words-left (some-words W x (D .object)) (packed-new (sizeAt W x) lt (K .packed)) in
+        omega (arith, K .room, K .left)
+
+  pub able : Able W s
+  unfolding Able
+  able x D lt = lowest (s .pages .labels) (W .plan .lo) (W .plan .hi) (some-free x D lt)
+
+  -- ---- an object copied
+
+  module _ (x : ℕ) (D : Due W s x) where
+    module _ (l : List Move) (y : ℕ) (is : l ≡ s .moves ++ ((record { from = x; to = y }) ∷ [])) where
+      froms-are : froms l ≡ froms (s .moves) ++ (x ∷ [])
+      froms-are = ap froms is ∙ froms-snoc (s .moves) (record { from = x; to = y })
+
+      weight : weigh (size (W .heap)) (froms l) ≡ wordsOf W s + sizeAt W x
+      weight = ap (weigh (size (W .heap))) froms-are ∙ weigh-snoc (size (W .heap)) (froms (s .moves)) x
+
+      distinct′ : Distinct (froms l)
+      distinct′ = subst Distinct (sym froms-are) (distinct-snoc (froms (s .moves)) x (K .distinct) (not-copied x D))
+
+    copy-packs : Packs W (copied W s x)
+    unfolding withRoom put takePage
+    copy-packs = go (leb (s .pages .fill + sizeAt W x) (W .plan .page)) refl
+      where
+        n : ℕ
+        n = sizeAt W x
+
+        same : s .pages .fill + n ≤ W .plan .page → Packs W (put (W .plan) n x (s .pages) s)
+        same h =
+            let is = put-moves W n x (s .pages) s in
+            record {
+              taken = K .taken;
+              joined = K .joined;
+              left = K .left;
+              distinct = distinct′ _ _ is;
+              packed = subst (Packed (W .plan .page) (K .taken) (s .pages .fill + n)) (sym (weight _ _ is)) (packed-same n (K .packed));
+              words = sym (weight _ _ is ∙ ap (λ (k : ℕ). k + n) (sym (K .words)));
+              objects = omega (arith, K .objects, some-words W x (D .object));
+              room = K .room;
+            }
+
+        other : W .plan .page < s .pages .fill + n → Packs W (put (W .plan) n x (takePage (W .plan) (s .pages)) s)
+        other lt =
+            let L = lowest (s .pages .labels) (W .plan .lo) (W .plan .hi) (some-free x D lt) in
+            let is = put-moves W n x (takePage (W .plan) (s .pages)) s in
+            record {
+              taken = K .taken + 1;
+              joined = length-append (s .pages .queue) _ ∙ omega (arith, K .joined);
+              left = omega (arith, free-less (s .pages .labels) (W .plan .lo) (W .plan .hi) _ (W .plan .new) (L .low) (L .high) (page-inside W s I L) (L .free) (W .new≢0), K .left);
+              distinct = distinct′ _ _ is;
+              packed = subst (Packed (W .plan .page) (K .taken + 1) (0 + n)) (sym (weight _ _ is)) (rw zero-add (packed-new n lt (K .packed)));
+              words = sym (weight _ _ is ∙ ap (λ (k : ℕ). k + n) (sym (K .words)));
+              objects = omega (arith, K .objects, some-words W x (D .object));
+              room = K .room;
+            }
+
+        go : (b : Bool) → leb (s .pages .fill + sizeAt W x) (W .plan .page) ≡ b
+            → Packs W (put (W .plan) (sizeAt W x) x (cond b (s .pages) (takePage (W .plan) (s .pages))) (onPages s (cond b (s .pages) (takePage (W .plan) (s .pages)))))
+        go true e = same (leb-true _ _ e)
+        go false e = other (leb-false _ _ e)
+
+pub packs-how : (W : World) (s t : State) → Inv W s → Packs W s → How W s t → Packs W t
+packs-how W s t I K (idle e) = subst (Packs W) (sym e) K
+packs-how W s t I K (copies x D av e) = subst (Packs W) (sym e) (copy-packs W s I K x D)

@@ -1,0 +1,161 @@
+-- The sweep of a page: it meets every retained object of the page in turn, those that are put there meanwhile too, and each of
+-- their references ends forwarded.
+use mathlib.Core.Path.{_≡_, sym, ap, _∙_}
+use mathlib.Core.Logic.{_⊎_, inl, inr}
+use mathlib.Core.Bool.{true, false, true≢false}
+use Prim.Native.Nat.{ℕ, zero, suc, _+_, _*_, _-_, _≤_, _<_}
+use native.Mathlib.Nat.{add-zero, le-refl, le-trans}
+use native.Mathlib.Decide.{decLt}
+use native.Mathlib.Omega.{arith}
+use lib.ListN.{length}
+use Rattle.rules.specs.Ranges.{at}
+use Rattle.rules.specs.Header.{isHeader}
+use Rattle.rules.specs.Collection.{State, top, sweepReferences, sweepPage}
+use Rattle.laws.specs.Headers.{header-is, header-zero, header-full}
+use Rattle.laws.specs.Pages.{split-page, page-on, on-page, same-page}
+use Rattle.laws.specs.Safe.{SafeReferences, SafePage}
+use Rattle.theory.specs.World.{Swept, pageOf, labelOf, sizeAt, refsAt, World, Kept, Place, kept-place, Region, Inv}
+use Rattle.theory.specs.Places.{SameOrApart, place-obj, kept-obj, place-fits, kept-fits, place-end, place-top, place-apart, kept-apart, kept-region, place-kept, place-nonzero}
+use Rattle.theory.specs.Tile.{Next, another, full, blank, Tiled}
+use Rattle.theory.specs.Good.{Good, Fresh, Grow, grow-refl, grow-trans}
+use Rattle.theory.specs.SweepReferences.{Refs, sweep-references}
+
+-- ---- where a walk of page g stands, with `room` words before the page's end: on a place, or at the stop
+
+pub data Cursor (W : World) (s : State) (g a room : ℕ) : Type 0 where
+  at-place : (x : ℕ) → Place W s x a → pageOf W a ≡ g → Cursor W s g a room
+  at-stop : isHeader (at (s .heap) a) room ≡ false → ((x y : ℕ) → Place W s x y → pageOf W y ≡ g → y + sizeAt W x ≤ a)
+      → ((w : ℕ) → pageOf W w ≡ g → a ≤ w → at (s .heap) w ≡ 0) → (g ≡ s .pages .copy → a ≡ top (W .plan) (s .pages)) → Cursor W s g a room
+
+-- behind a place
+pub behind-place : (W : World) (s : State) → Inv W s → Tiled W s → (g x y room : ℕ) → Place W s x y → pageOf W y ≡ g
+    → y + sizeAt W x + room ≡ g * W .plan .page + W .plan .page → Cursor W s g (y + sizeAt W x) room
+unfolding top
+behind-place W s I T g x y zero k e h =
+    at-stop (header-full _) (λ a b m q. omega (arith, place-end W s I g a b m q)) (λ w q l. absurd (omega (arith, page-on (W .pos) w g q .1)))
+    (λ q. omega (arith, I .fillWithin, place-top W s I x y k (e ∙ q), ap (λ (j : ℕ). j * W .plan .page) q))
+behind-place W s I T g x y (suc room) k e h = go (T .next x y k)
+  where
+    z : ℕ
+    z = y + sizeAt W x
+
+    zg : pageOf W z ≡ g
+    zg = on-page (W .pos) z g (omega (arith, page-on (W .pos) y g e .0)) (omega arith)
+
+    go : Next W s (pageOf W y) (y + sizeAt W x) → Cursor W s g (y + sizeAt W x) (suc room)
+    go (another x′ k′ e′) = at-place x′ k′ (e′ ∙ e)
+    go (full q) = absurd (omega (arith, ap (λ (k : ℕ). k * W .plan .page) e))
+    go (blank f q) = at-stop (ap (λ (w : ℕ). isHeader w (suc room)) (f z (zg ∙ sym e) (le-refl z)) ∙ header-zero (suc room)) none (λ w a l. f w (a ∙ sym e) l) (λ a. q (e ∙ a))
+      where
+        none : (a b : ℕ) → Place W s a b → pageOf W b ≡ g → b + sizeAt W a ≤ y + sizeAt W x
+        none a b m eb = one (place-apart W s I a b x y m k)
+          where
+            one : SameOrApart W a b x y → b + sizeAt W a ≤ y + sizeAt W x
+            one (inl (p, q)) = rw (p, q) (le-refl _)
+            one (inr (inl l)) = omega arith
+            one (inr (inr l)) = absurd (place-nonzero W s I (T .page0) a b m (f b (eb ∙ sym e) l))
+
+-- ---- a page
+
+pub record PageDone (W : World) (s : State) (g : ℕ) (t : State) (Safe : Type 0) : Type 0 where
+  pub safe : Safe
+  pub good : Good W t
+  pub grow : Grow W s t
+  pub done : (x y : ℕ) → Kept W t x y → pageOf W y ≡ g → (i : ℕ) → 0 < i → i ≤ refsAt W x → Swept W t x y i
+
+-- what lies before a is done
+abbrev pub Before : World → State → ℕ → ℕ → Type 0
+Before W s g a = (x y : ℕ) → Kept W s x y → pageOf W y ≡ g → y < a → (i : ℕ) → 0 < i → i ≤ refsAt W x → Swept W s x y i
+
+abbrev pub InQueue : State → ℕ → Type 0
+InQueue s g = (j : ℕ) × (j < length (s .pages .queue)) × (at (s .pages .queue) j ≡ g)
+
+abbrev pub PageOk : World → ℕ → ℕ → Type 0
+PageOk W g f = (a room : ℕ) (s : State) → Good W s → InQueue s g → a + room ≡ g * W .plan .page + W .plan .page → room ≤ f → Cursor W s g a room → Before W s g a
+    → PageDone W s g (sweepPage (W .plan) f a room s) (SafePage (W .plan) f a room s)
+
+-- nothing is left on the page
+page-end : (W : World) (g a : ℕ) (s : State) (Safe : Type 0) → Safe → Good W s → ((x y : ℕ) → Place W s x y → pageOf W y ≡ g → y + sizeAt W x ≤ a)
+    → Before W s g a → PageDone W s g s Safe
+page-end W g a s Safe safe G none before = record {
+  safe = safe;
+  good = G;
+  grow = grow-refl W s;
+  done = λ x y k q. before x y k q (let l : y + sizeAt W x ≤ a = none x y (kept-place W s k) q in omega (arith, W .shape x (kept-obj W s (G .inv) x y k)));
+}
+
+page-none : (W : World) (g : ℕ) → PageOk W g zero
+unfolding sweepPage SafePage
+page-none W g a room s G Q e le (at-stop h none bl tp) before = page-end W g a s (Unit {0}) tt G none before
+page-none W g a room s G Q e le (at-place x K pg) before =
+    absurd (omega (arith, place-fits W s (G .inv) x a K, split-page (W .plan .page) a, ap (λ (k : ℕ). k * W .plan .page) pg, W .shape x (place-obj W s (G .inv) x a K)))
+
+module _ (W : World) (g f a room : ℕ) (s : State) (G : Good W s) (Q : InQueue s g) (e : a + room ≡ g * W .plan .page + W .plan .page) (le : room ≤ suc f)
+    (x : ℕ) (K : Kept W s x a) (pg : pageOf W a ≡ g) (before : Before W s g a) where
+  ob : W .Obj x
+  ob = kept-obj W s (G .inv) x a K
+
+  hd : at (s .heap) a ≡ at (W .heap) x
+  hd = G .inv .header x a K
+
+  fits : sizeAt W x ≤ room
+  fits = omega (arith, kept-fits W s (G .inv) x a K, split-page (W .plan .page) a, ap (λ (k : ℕ). k * W .plan .page) pg)
+
+  is : isHeader (at (W .heap) x) room ≡ true
+  is = header-is (at (W .heap) x) room (record { odd = W .odd x ob; shape = W .shape x ob; fits = fits })
+
+  -- its references are swept first
+  abbrev t : State
+  t = sweepReferences (W .plan) (refsAt W x) (suc a) s
+
+  swept : Refs W s x a t (SafeReferences (W .plan) (refsAt W x) (suc a) s)
+  swept = simp add-zero at (sweep-references W (refsAt W x) 0 s G x a K (omega arith) (λ i p q. absurd (omega arith)))
+
+  -- its last word
+  last : ℕ
+  last = a + (sizeAt W x - 1)
+
+  before′ : Before W t g (a + sizeAt W x)
+  unfolding last
+  before′ x′ y′ k′ pg′ lt i low high = go (swept .grow .fresh x′ y′ k′)
+    where
+      here : Region W s last
+      here = kept-region W s (G .inv) x a (sizeAt W x - 1) K (omega (arith, W .shape x ob))
+
+      on : pageOf W last ≡ g
+      on = same-page (W .pos) a (sizeAt W x) (sizeAt W x - 1) (kept-fits W s (G .inv) x a K) (omega (arith, W .shape x ob)) ∙ pg
+
+      old : Kept W s x′ y′ → SameOrApart W x′ y′ x a → Dec (y′ < a) → Swept W t x′ y′ i
+      old k d (yes l) = swept .grow .swept x′ y′ i k low high (before x′ y′ k pg′ l i low high)
+      old k (inl (ex, ey)) (no l) = rw (ex, ey) (swept .done i low (rw ex at high))
+      old k (inr (inl z)) (no l) = absurd (omega (arith, W .shape x′ (kept-obj W s (G .inv) x′ y′ k)))
+      old k (inr (inr z)) (no l) = absurd (omega arith)
+
+      go : Kept W s x′ y′ ⊎ Fresh W s t y′ → Swept W t x′ y′ i
+      go (inl k) = old k (kept-apart W s (G .inv) x′ y′ x a k K) (decLt y′ a)
+      go (inr F) = let b : last < y′ = F .beyond last here (on ∙ sym pg′) in absurd (omega (arith, W .shape x ob))
+
+  in-queue : InQueue t g
+  in-queue = let (j, lt, q) = Q in (j, le-trans lt (swept .grow .longer), swept .grow .prefix j lt ∙ q)
+
+  page-place : PageOk W g f → PageDone W s g (sweepPage (W .plan) (suc f) a room s) (SafePage (W .plan) (suc f) a room s)
+  unfolding sweepPage SafePage
+  page-place ih =
+      let r : PageDone W t g (sweepPage (W .plan) f (a + sizeAt W x) (room - sizeAt W x) t) (SafePage (W .plan) f (a + sizeAt W x) (room - sizeAt W x) t) =
+      ih (a + sizeAt W x) (room - sizeAt W x) t (swept .good) in-queue (omega (arith, fits)) (omega (arith, W .shape x ob, fits))
+      (behind-place W t (swept .good .inv) (swept .good .tiled) g x a (room - sizeAt W x) (kept-place W t (swept .grow .kept x a K)) pg (omega (arith, fits))) before′ in
+      rw (hd, is) (record { safe = λ z. (swept .safe, r .safe); good = r .good; grow = grow-trans W s t _ (swept .grow) (r .grow); done = r .done })
+
+page-more : (W : World) (g f : ℕ) → PageOk W g f → PageOk W g (suc f)
+page-more W g f ih a room s G Q e le (at-stop h none bl tp) before = go
+  where
+    go : PageDone W s g (sweepPage (W .plan) (suc f) a room s) (SafePage (W .plan) (suc f) a room s)
+    go = unfold sweepPage SafePage in rw h (page-end W g a s _ (λ z. absurd (true≢false (sym z))) G none before)
+page-more W g f ih a room s G Q e le (at-place x K pg) before = page-place W g f a room s G Q e le x (place-kept W s (G .inv) x a label K) pg before ih
+  where
+    label : labelOf W s a ≡ W .plan .new
+    label = let (j, lt, q) = Q in ap (at (s .pages .labels)) (pg ∙ sym q) ∙ G .lined .queued .only j lt
+
+pub sweep-page : (W : World) (g f : ℕ) → PageOk W g f
+sweep-page W g zero = page-none W g
+sweep-page W g (suc f) = page-more W g f (sweep-page W g f)
