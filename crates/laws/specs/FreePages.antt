@@ -12,6 +12,7 @@ use lib.Seq.{getD-set-same, getD-set-other}
 use lib.Dec.{eqb}
 use borrow.Author.Tests.{eqb-true, eq-eqb, ne-eqb}
 use Rattle.rules.specs.Ranges.{at, from, block, count, first}
+use Rattle.laws.specs.Lists.{count-past, count-yes, count-no, first-past, first-here, first-step}
 use Rattle.rules.specs.Pages.{isFree, lowestFree, pagesUsed}
 
 -- ---- counting in a range
@@ -123,3 +124,30 @@ free-less labels lo hi g new a b inside e nz = count-less (λ j. eqb (at labels 
 pub free-same : (labels before : List ℕ) (lo hi : ℕ) → ((g : ℕ) → isFree labels g ≡ isFree before g) → freePages labels lo hi ≡ freePages before lo hi
 unfolding freePages
 free-same labels before lo hi h = count-same (isFree before) (isFree labels) h (block lo hi)
+
+-- ---- as a loop over the labels meets them
+
+module _ (labels : List ℕ) (g hi : ℕ) where
+  pub used-past : hi ≤ g → pagesUsed labels g hi ≡ 0
+  unfolding pagesUsed
+  used-past p = count-past (λ g. not (isFree labels g)) g hi p
+
+  pub used-more : g < hi → at labels g ≢ 0 → pagesUsed labels g hi ≡ 1 + pagesUsed labels (g + 1) hi
+  unfolding pagesUsed isFree
+  used-more p q = count-yes (λ g. not (isFree labels g)) g hi p (rw (ne-eqb (at labels g) 0 q))
+
+  pub used-free : g < hi → at labels g ≡ 0 → pagesUsed labels g hi ≡ pagesUsed labels (g + 1) hi
+  unfolding pagesUsed isFree
+  used-free p q = count-no (λ g. not (isFree labels g)) g hi p (rw (eq-eqb (at labels g) 0 q))
+
+  pub lowest-past : hi ≤ g → lowestFree labels g hi ≡ hi
+  unfolding lowestFree
+  lowest-past p = first-past (isFree labels) g hi hi p
+
+  pub lowest-here : g < hi → at labels g ≡ 0 → lowestFree labels g hi ≡ g
+  unfolding lowestFree isFree
+  lowest-here p q = first-here (isFree labels) g hi hi p (eq-eqb (at labels g) 0 q)
+
+  pub lowest-step : g < hi → at labels g ≢ 0 → lowestFree labels g hi ≡ lowestFree labels (g + 1) hi
+  unfolding lowestFree isFree
+  lowest-step p q = first-step (isFree labels) g hi hi p (ne-eqb (at labels g) 0 q)

@@ -6,7 +6,8 @@ use mathlib.Core.List.{List, [], _∷_, List·Memᴰ, List·Memᴰ·head, List·
 use Prim.Native.Nat.{ℕ, zero, suc, _+_, _-_, _≤_, _<_}
 use native.Mathlib.Omega.{arith}
 use native.Mathlib.Numerals.{add-one}
-use lib.ListN.{length}
+use lib.ListN.{length, getD, drop, drop-of-length-le}
+use lib.Seq.{drop-cons}
 use lib.Dec.{eqb}
 use borrow.Author.Tests.{eqb-true, eqb-false}
 use Rattle.rules.specs.Tests.{and-left, and-right}
@@ -141,3 +142,17 @@ count-le f (x ∷ xs) = go (f x) (count-le f xs)
     go : (b : Bool) → count f xs ≤ length xs → cond b 1 0 + count f xs ≤ suc (length xs)
     go true h = omega arith
     go false h = omega arith
+
+-- a test at each member, from the i-th on, as a loop over a slice meets it
+module _ (f : ℕ → Bool) (xs : List ℕ) (i : ℕ) where
+  pub rest-past : length xs ≤ i → each f (drop i xs) ≡ true
+  unfolding each
+  rest-past h = rw (drop-of-length-le xs h)
+
+  pub rest-no : i < length xs → f (getD xs i 0) ≡ false → each f (drop i xs) ≡ false
+  unfolding each
+  rest-no h e = rw (drop-cons xs i 0 h, e)
+
+  pub rest-yes : i < length xs → f (getD xs i 0) ≡ true → each f (drop i xs) ≡ each f (drop (i + 1) xs)
+  unfolding each
+  rest-yes h e = rw (drop-cons xs i 0 h, e, add-one i)

@@ -9,13 +9,13 @@ use native.Mathlib.Decide.{ℕ-discrete, decLt}
 use native.Mathlib.Omega.{arith}
 use lib.ListN.{length, List·getD-eq-default}
 use lib.Dec.{eqb, leb}
-use borrow.Author.Tests.{eqb-true, eqb-false, eq-eqb, ne-eqb, leb-true, le-leb}
+use borrow.Author.Tests.{eqb-true, eq-eqb, ne-eqb, leb-true, le-leb}
 use Rattle.rules.specs.Tests.{and-left, and-right, and-is}
 use Rattle.rules.specs.Ranges.{at, block, each}
 use Rattle.rules.specs.Pages.{isFree}
 use Rattle.rules.specs.Lent.{Lent, isValid}
 use Rattle.rules.specs.Walk.{starts, stop, isReference}
-use Rattle.rules.specs.Sound.{isBlank, refsGood, isUsedSound, isPageSound, isFillSound, isSound, InUse, IsObject, refs, payload, Valid, Sound}
+use Rattle.rules.specs.Sound.{Opened, isBlank, refsGood, isUsedSound, isPageSound, isFillSound, isSound, InUse, IsObject, refs, payload, Valid, Sound}
 use Rattle.laws.specs.Lists.{each-true, true-each, each-block, block-each}
 use Rattle.laws.specs.Pages.{on-page, page-on, split-page}
 use Rattle.laws.specs.Valid.{Layout, valid-says, valid-is, valid-layout, label-pos}
@@ -51,25 +51,41 @@ pub record UsedSound (m : Lent) (g : ℕ) : Type 0 where
   pub label : at (m .labels) g ≡ m .rec .label
   pub some : 1 ≤ length (starts m g)
   pub references : (x : ℕ) → List·Memᴰ x (starts m g) → (i : ℕ) → i < refs m x → (payload m x i ≡ 0) ⊎ IsObject m (payload m x i)
+  pub fill : g ≡ m .rec .opened → stop m g ≡ g * m .rec .page + m .rec .fill
   pub tail : (w : ℕ) → stop m g ≤ w → w < g * m .rec .page + m .rec .page → at (m .heap) w ≡ 0
+
+fill-says : (m : Lent) (g : ℕ) → isFillSound m g ≡ true → g ≡ m .rec .opened → stop m g ≡ g * m .rec .page + m .rec .fill
+unfolding isFillSound
+fill-says m g e q = eqb-true _ _ (rw (eq-eqb g (m .rec .opened) q) at e)
+
+fill-is : (m : Lent) (g : ℕ) → (g ≡ m .rec .opened → stop m g ≡ g * m .rec .page + m .rec .fill) → isFillSound m g ≡ true
+unfolding isFillSound
+fill-is m g f = go (eqb g (m .rec .opened)) refl
+  where
+    go : (b : Bool) → eqb g (m .rec .opened) ≡ b → cond b (eqb (stop m g) (g * m .rec .page + m .rec .fill)) true ≡ true
+    go true q = eq-eqb _ _ (f (eqb-true _ _ q))
+    go false q = refl
 
 used-says : (m : Lent) (g : ℕ) → isUsedSound m g ≡ true → UsedSound m g
 unfolding isUsedSound
 used-says m g e =
     let e1 = and-right (eqb (at (m .labels) g) (m .rec .label)) _ e in
     let e2 = and-right (leb 1 (length (starts m g))) _ e1 in
+    let e3 = and-right (each (refsGood m) (starts m g)) _ e2 in
     record {
       label = eqb-true _ _ (and-left _ _ e);
       some = leb-true 1 (length (starts m g)) (and-left _ _ e1);
       references = λ x k. good-says m x (each-true (refsGood m) (starts m g) (and-left _ _ e2) x k);
-      tail = blank-says (m .heap) (stop m g) _ (and-right (each (refsGood m) (starts m g)) _ e2);
+      fill = fill-says m g (and-left _ _ e3);
+      tail = blank-says (m .heap) (stop m g) _ (and-right (isFillSound m g) _ e3);
     }
 
 used-is : (m : Lent) (g : ℕ) → UsedSound m g → isUsedSound m g ≡ true
 unfolding isUsedSound
 used-is m g u =
     and-is (eq-eqb _ _ (u .label)) (and-is (le-leb 1 (length (starts m g)) (u .some))
-    (and-is (true-each (refsGood m) (starts m g) (λ x k. good-is m x (u .references x k))) (blank-is (m .heap) (stop m g) _ (u .tail))))
+    (and-is (true-each (refsGood m) (starts m g) (λ x k. good-is m x (u .references x k)))
+    (and-is (fill-is m g (u .fill)) (blank-is (m .heap) (stop m g) _ (u .tail)))))
 
 -- a page free and blank, or in use
 abbrev pub PageSound : Lent → ℕ → Type 0
@@ -95,7 +111,7 @@ first-of (x ∷ xs) h = (x, List·Memᴰ·head refl)
 
 module _ (m : Lent) where
   pub sound-says : isSound m ≡ true → Sound m
-  unfolding isSound isFillSound isFree
+  unfolding isSound isFree
   sound-says e = record {
     valid = va;
     zero = free0;
@@ -103,7 +119,7 @@ module _ (m : Lent) where
     labels = λ g. lb g (ℕ-discrete g 0) (decLt g (m .rec .pages));
     some = λ g u. first-of (starts m g) (us g u .some);
     tail = λ g w u q l. us g u .tail w l (page-on pos w g q .1);
-    fill = λ n. fl n (eqb (m .rec .opened) 0) refl (and-right (each (isPageSound m) (block 1 (m .rec .pages))) _ e3);
+    fill = λ n. fl n (va .opened);
     references = λ x i ob h. us (x / P) (ob .inUse) .references x (ob .met) i h;
   }
     where
@@ -119,20 +135,20 @@ module _ (m : Lent) where
       pos : 0 < m .rec .page
       pos = omega (arith, y .page-low)
 
-      e1 : (eqb (at (m .labels) 0) 0 && (isBlank (m .heap) 0 (m .rec .page) && (each (isPageSound m) (block 1 (m .rec .pages)) && isFillSound m))) ≡ true
+      e1 : (eqb (at (m .labels) 0) 0 && (isBlank (m .heap) 0 (m .rec .page) && each (isPageSound m) (block 1 (m .rec .pages)))) ≡ true
       e1 = and-right (isValid m) _ e
 
-      e2 : (isBlank (m .heap) 0 (m .rec .page) && (each (isPageSound m) (block 1 (m .rec .pages)) && isFillSound m)) ≡ true
+      e2 : (isBlank (m .heap) 0 (m .rec .page) && each (isPageSound m) (block 1 (m .rec .pages))) ≡ true
       e2 = and-right (eqb (at (m .labels) 0) 0) _ e1
 
-      e3 : (each (isPageSound m) (block 1 (m .rec .pages)) && isFillSound m) ≡ true
+      e3 : each (isPageSound m) (block 1 (m .rec .pages)) ≡ true
       e3 = and-right (isBlank (m .heap) 0 (m .rec .page)) _ e2
 
       free0 : at (m .labels) 0 ≡ 0
       free0 = eqb-true _ _ (and-left _ _ e1)
 
       page : (g : ℕ) → 1 ≤ g → g < m .rec .pages → PageSound m g
-      page g a b = page-says m g (each-block (isPageSound m) 1 (m .rec .pages) (and-left _ _ e3) g a b)
+      page g a b = page-says m g (each-block (isPageSound m) 1 (m .rec .pages) e3 g a b)
 
       us : (g : ℕ) → InUse m g → UsedSound m g
       us g u = go (page g (u .low) (u .high))
@@ -160,17 +176,16 @@ module _ (m : Lent) where
           go (inr s) = inr (s .label)
       lb g (no z) (no h) = inl (List·getD-eq-default (m .labels) 0 {n = g} (omega (arith, y .labels)))
 
-      fl : m .rec .opened ≢ 0 → (b : Bool) → eqb (m .rec .opened) 0 ≡ b → cond b true (eqb (stop m (m .rec .opened)) (m .rec .opened * m .rec .page + m .rec .fill)) ≡ true
-          → stop m (m .rec .opened) ≡ m .rec .opened * m .rec .page + m .rec .fill
-      fl n true q z = absurd (n (eqb-true _ _ q))
-      fl n false q z = eqb-true _ _ z
+      fl : m .rec .opened ≢ 0 → ((m .rec .opened ≡ 0) × (m .rec .fill ≡ m .rec .page)) ⊎ Opened m → stop m (m .rec .opened) ≡ m .rec .opened * m .rec .page + m .rec .fill
+      fl n (inl z) = absurd (n (z .0))
+      fl n (inr o) = us (m .rec .opened) (o .page) .fill refl
 
   pub sound-is : Sound m → isSound m ≡ true
-  unfolding isSound isFillSound isPageSound isFree
+  unfolding isSound isPageSound isFree
   sound-is S =
       and-is (valid-is m (S .valid)) (and-is (eq-eqb _ _ (S .zero))
       (and-is (blank-is (m .heap) 0 (m .rec .page) (λ w lo hi. S .blank w (ap (at (m .labels)) (on-page pos w 0 (omega arith) (omega arith)) ∙ S .zero)))
-      (and-is (block-each (isPageSound m) 1 (m .rec .pages) (λ g lo hi. pg g lo hi (S .labels g))) (fl (eqb (m .rec .opened) 0) refl))))
+      (block-each (isPageSound m) 1 (m .rec .pages) (λ g lo hi. pg g lo hi (S .labels g)))))
     where
       y : Layout m (m .rec .page) (m .rec .pages)
       y = valid-layout m (S .valid)
@@ -183,6 +198,7 @@ module _ (m : Lent) where
         label = u .label;
         some = member (S .some g u .0) (starts m g) (S .some g u .1);
         references = λ x k i h. S .references x i (met-object m pos g x u k) h;
+        fill = λ q. ap (stop m) q ∙ S .fill (λ z. omega (arith, u .low)) ∙ ap (λ (j : ℕ). j * m .rec .page + m .rec .fill) (sym q);
         tail = λ w lo hi. S .tail g w u (on-page pos w g (omega (arith, steps-upto (page-steps m g) .0)) hi) lo;
       }
 
@@ -190,7 +206,3 @@ module _ (m : Lent) where
       pg g lo hi (inl z) = rw (eq-eqb _ _ z) (blank-is (m .heap) _ _ (λ w a b. S .blank w (ap (at (m .labels)) (on-page pos w g a b) ∙ z)))
       pg g lo hi (inr z) =
           rw (ne-eqb (at (m .labels) g) 0 (λ n. label-pos m (S .valid) (sym z ∙ n))) (used-is m g (us g (record { low = lo; high = hi; label = z })))
-
-      fl : (b : Bool) → eqb (m .rec .opened) 0 ≡ b → cond b true (eqb (stop m (m .rec .opened)) (m .rec .opened * m .rec .page + m .rec .fill)) ≡ true
-      fl true q = refl
-      fl false q = eq-eqb _ _ (S .fill (eqb-false _ _ q))

@@ -1,11 +1,11 @@
 -- Words of a list after stores into it: those stored, and all the others. Nothing here knows of pages or objects.
-use mathlib.Core.Path.{_≡_, refl, _∙_}
+use mathlib.Core.Path.{_≡_, refl, ap, _∙_}
 use mathlib.Core.Logic.{_⊎_, inl, inr, _≢_}
-use mathlib.Core.List.{List, [], _∷_}
+use mathlib.Core.List.{List, [], _∷_, _++_, append-nil}
 use Prim.Native.Nat.{ℕ, zero, suc, _+_, _≤_, _<_}
 use native.Mathlib.Nat.{add-zero}
 use native.Mathlib.Omega.{arith}
-use lib.ListN.{length, set, replicate, length-set, take, drop, length-take, length-drop, List·getD-eq-default}
+use lib.ListN.{drop-of-length-le, length, set, replicate, length-set, take, drop, length-take, length-drop, List·getD-eq-default}
 use lib.Seq.{sets, getD-set-same, getD-set-other, getD-take, getD-drop}
 use Rattle.rules.specs.Ranges.{at}
 use native.Mathlib.Decide.{decLt}
@@ -50,3 +50,9 @@ in-range l g h = go (decLt g (length l))
     go : Dec (g < length l) → g < length l
     go (yes p) = p
     go (no q) = absurd (h (List·getD-eq-default l 0 (omega arith)))
+
+-- a slice that is filled to its end
+pub filled : (i : ℕ) (d : List ℕ) → length d ≤ i → i ≤ length d → replicate i 0 ++ drop i d ≡ replicate (length d) 0
+filled i d a b =
+    let e : i ≡ length d = omega arith in
+    rw (drop-of-length-le d a) (append-nil (replicate i 0) ∙ ap (λ (n : ℕ). replicate n 0) e)

@@ -1,6 +1,7 @@
-// The leaves: header words, page sizes, the record, the walk and look-up. Every function here answers every input, and
-// equals its definition in `rules` there; none changes anything.
+// The leaves: header words, page sizes, the record, the labels as a table, the walk and look-up. Every function here answers
+// every input, and equals its definition in `rules` there.
 pub mod header;
 pub mod pages;
 pub mod record;
+pub mod tables;
 pub mod walk;

@@ -22,27 +22,26 @@ isBlank h a e = each (λ w. eqb (at h w) 0) (block a e)
 unfoldable pub refsGood : Lent → ℕ → Bool
 refsGood m x = each (λ w. isReference m (at (m .heap) w)) (block (x + 1) (x + 1 + refsOf (at (m .heap) x)))
 
--- a page with a label that is not 0: the label is current, "the walk meets at least one object", every reference is good, "and
--- only zeros stand from its stop on"
+-- "on the open page it stops exactly at fill"
+unfoldable pub isFillSound : Lent → ℕ → Bool
+isFillSound m g = cond (eqb g (m .rec .opened)) (eqb (stop m g) (g * m .rec .page + m .rec .fill)) true
+
+-- a page with a label that is not 0: the label is current, "the walk meets at least one object", every reference is good, the
+-- walk stops where it should, "and only zeros stand from its stop on"
 unfoldable pub isUsedSound : Lent → ℕ → Bool
 isUsedSound m g =
-    eqb (at (m .labels) g) (m .rec .label) && (leb 1 (length (starts m g))
-    && (each (refsGood m) (starts m g) && isBlank (m .heap) (stop m g) (g * m .rec .page + m .rec .page)))
+    eqb (at (m .labels) g) (m .rec .label) && (leb 1 (length (starts m g)) && (each (refsGood m) (starts m g)
+    && (isFillSound m g && isBlank (m .heap) (stop m g) (g * m .rec .page + m .rec .page))))
 
 -- "every free page hold[s] only zeros; every label is 0 or current"
 unfoldable pub isPageSound : Lent → ℕ → Bool
 isPageSound m g =
     cond (isFree (m .labels) g) (isBlank (m .heap) (g * m .rec .page) (g * m .rec .page + m .rec .page)) (isUsedSound m g)
 
--- "on the open page it stops exactly at fill", where there is one
-unfoldable pub isFillSound : Lent → Bool
-isFillSound m = cond (eqb (m .rec .opened) 0) true (eqb (stop m (m .rec .opened)) (m .rec .opened * m .rec .page + m .rec .fill))
-
--- "the record is valid; page 0 is free; page 0 [holds] only zeros"; each page from 1 to T - 1; the open page
+-- "the record is valid; page 0 is free; page 0 [holds] only zeros"; and each page from 1 to T - 1
 unfoldable pub isSound : Lent → Bool
 isSound m =
-    isValid m && (isFree (m .labels) 0 && (isBlank (m .heap) 0 (m .rec .page)
-    && (each (isPageSound m) (block 1 (m .rec .pages)) && isFillSound m)))
+    isValid m && (isFree (m .labels) 0 && (isBlank (m .heap) 0 (m .rec .page) && each (isPageSound m) (block 1 (m .rec .pages))))
 
 -- ---- the proposition
 

@@ -1,0 +1,12 @@
+-- `heap::accepted` meets its contract. Assumes nothing.
+use Rattle.rules.specs.Calls.{accepted}
+use mathlib.Core.Path.{refl}
+use Rattle.heap.proofs.accepted.Statement.{statement}
+use Rattle.heap.proofs.accepted.Tie as tie
+
+returns : tie.Need-returns
+unfolding accepted
+returns c = λ heap labels links. refl
+
+pub accepted-spec : {M : Type 1} → statement M
+accepted-spec = tie.close (tie.spec returns)

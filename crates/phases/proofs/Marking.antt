@@ -1,0 +1,71 @@
+-- Laws of the marks: pages that hints name are marked one by one, then those in use without a mark are counted.
+use mathlib.Core.Path.{_≡_, refl, sym, ap, _∙_}
+use mathlib.Core.Bool.{Bool, true, false, not, _&&_, _||_, or-true, or-false}
+use mathlib.Core.List.{List}
+use Prim.Native.Nat.{ℕ, zero, suc, _+_, _≤_, _<_}
+use native.Mathlib.Omega.{arith}
+use native.Mathlib.Numerals.{add-one}
+use native.Mathlib.Decide.{decLt, ℕ-discrete}
+use lib.ListN.{length, getD, set, drop, replicate, drop-of-length-le, length-replicate, getD-replicate}
+use lib.Seq.{drop-cons, getD-set-same, getD-set-other}
+use lib.Dec.{eqb}
+use borrow.Author.Tests.{eq-eqb, ne-eqb}
+use Rattle.rules.specs.Ranges.{at, block, has, count}
+use Rattle.rules.specs.Pages.{pageNamed, pagesNamed, isFree, pagesUnhinted}
+use Rattle.phases.specs.Code.{unmarked}
+use Rattle.laws.specs.Lists.{count-past, count-yes, count-no}
+
+-- ---- the marks, in tail form: with the words from the i-th on they say what they said at first with all
+
+module _ (P lo hi : ℕ) (ws : List ℕ) (i g : ℕ) (marks : List Bool) where
+  pub marks-end : (goal : Bool) → length ws ≤ i → (getD marks g false || has g (pagesNamed P lo hi (drop i ws))) ≡ goal → getD marks g false ≡ goal
+  unfolding pagesNamed has
+  marks-end goal h e = sym (or-false (getD marks g false)) ∙ (rw (drop-of-length-le ws h) at e)
+
+  pub marks-turn : (goal : Bool) (n : ℕ) → i < length ws → g < length marks → n ≡ pageNamed P lo hi (at ws i)
+      → (getD marks g false || has g (pagesNamed P lo hi (drop i ws))) ≡ goal → (getD (set marks n true) g false || has g (pagesNamed P lo hi (drop (i + 1) ws))) ≡ goal
+  unfolding pagesNamed has
+  marks-turn goal n h l q e =
+      let a : (getD marks g false || (eqb g (pageNamed P lo hi (at ws i)) || has g (pagesNamed P lo hi (drop (suc i) ws)))) ≡ goal = rw (drop-cons ws i 0 h) at e in
+      rw add-one (go (ℕ-discrete g n) (rw (← q) at a))
+    where
+      go : Dec (g ≡ n) → (getD marks g false || (eqb g n || has g (pagesNamed P lo hi (drop (suc i) ws)))) ≡ goal
+          → (getD (set marks n true) g false || has g (pagesNamed P lo hi (drop (suc i) ws))) ≡ goal
+      go (yes d) b =
+          let s : getD (set marks n true) g false ≡ true = rw d (getD-set-same marks n true false (rw d at l)) in
+          let t : true ≡ goal = (rw (eq-eqb g n d, or-true) at b) in
+          rw s t
+      go (no d) b = rw (getD-set-other marks n g true false d) (rw (ne-eqb g n d) at b)
+
+-- ---- the count
+
+-- one page: it counts, or it does not
+module _ (f : ℕ → Bool) (hi : ℕ) where
+  pub counted-yes : (n g all : ℕ) → g < hi → f g ≡ true → n + count f (block g hi) ≡ all → n + 1 + count f (block (g + 1) hi) ≡ all
+  counted-yes n g all p y e = omega (arith, count-yes f g hi p y)
+
+  pub counted-no : (n g all : ℕ) → g < hi → f g ≡ false → n + count f (block g hi) ≡ all → n + count f (block (g + 1) hi) ≡ all
+  counted-no n g all p y e = omega (arith, count-no f g hi p y)
+
+  pub counted-end : (n g all : ℕ) → hi ≤ g → n + count f (block g hi) ≡ all → n ≡ all
+  counted-end n g all p e = omega (arith, count-past f g hi p)
+
+-- tests that agree on a block count the same
+count-same : (f f′ : ℕ → Bool) (hi n lo : ℕ) → hi ≤ lo + n → ((g : ℕ) → g < hi → f g ≡ f′ g) → count f (block lo hi) ≡ count f′ (block lo hi)
+count-same f f′ hi zero lo le h = count-past f lo hi (omega arith) ∙ sym (count-past f′ lo hi (omega arith))
+count-same f f′ hi (suc n) lo le h = go (decLt lo hi) (f′ lo) refl (count-same f f′ hi n (lo + 1) (omega arith) h)
+  where
+    go : Dec (lo < hi) → (t : Bool) → f′ lo ≡ t → count f (block (lo + 1) hi) ≡ count f′ (block (lo + 1) hi) → count f (block lo hi) ≡ count f′ (block lo hi)
+    go (yes p) true e ih = count-yes f lo hi p (h lo p ∙ e) ∙ ap (λ (k : ℕ). 1 + k) ih ∙ sym (count-yes f′ lo hi p e)
+    go (yes p) false e ih = count-no f lo hi p (h lo p ∙ e) ∙ ih ∙ sym (count-no f′ lo hi p e)
+    go (no p) t e ih = count-past f lo hi (omega arith) ∙ sym (count-past f′ lo hi (omega arith))
+
+-- a mark stands on each page that is named, and on no other
+pub unmarked-is : (labels named : List ℕ) (n hi : ℕ) (marks : List Bool) → hi ≤ n
+    → ((g : ℕ) → g < length (replicate n false) → getD marks g false ≡ (getD (replicate n false) g false || has g named))
+    → count (unmarked labels marks) (block 1 hi) ≡ pagesUnhinted labels 1 hi named
+unfolding pagesUnhinted
+unmarked-is labels named n hi marks le h = count-same (unmarked labels marks) (λ g. not (isFree labels g) && not (has g named)) hi hi 1 (omega arith) (λ g p. rw (same g p))
+  where
+    same : (g : ℕ) → g < hi → getD marks g false ≡ has g named
+    same g p = h g (rw length-replicate (omega arith)) ∙ rw (getD-replicate n g false false (omega arith))

@@ -1,0 +1,78 @@
+-- What the code holds, as a state of the definitions: from the lent slices and the code's counters to `Pages` and `State`.
+-- The queue is links[0 .. tail), in order of joining; no moves are written down. The cursor is no part of the state, and
+-- `Tied` says what it has to do with it.
+use mathlib.Core.Path.{_≡_}
+use mathlib.Core.Bool.{Bool, false, not, _&&_}
+use mathlib.Core.List.{List, []}
+use Prim.Native.Nat.{ℕ, _+_, _-_, _≤_}
+use lib.ListN.{length, getD, take}
+use Rattle.rules.specs.declared.Record.{Record}
+use Rattle.rules.specs.declared.Collected.{Collected}
+use Rattle.rules.specs.Pages.{isFree, lowestFree, otherLabel}
+use Rattle.rules.specs.Lent.{opening, relabelled}
+use Rattle.rules.specs.Collection.{Plan, Pages, State, Forwarded, Rooted, plainly}
+use Rattle.phases.specs.declared.Gather.{Gather}
+use Rattle.phases.specs.declared.Shape.{Shape}
+
+abbrev pub plan : Shape → Plan
+plan k = record { page = k .page; lo = 1; hi = k .pages; old = k .old; new = k .new; logs = plainly }
+
+abbrev pub pagesOf : List ℕ → List ℕ → Gather → Pages
+pagesOf labels links g = record { labels = labels; queue = take (g .tail) links; copy = g .copy; fill = g .fill }
+
+abbrev pub stateOf : List ℕ → List ℕ → List ℕ → Gather → State
+stateOf heap labels links g = record { heap = heap; pages = pagesOf labels links g; objects = g .objects; words = g .words; moves = [] }
+
+abbrev pub forwardedOf : ℕ → State → Forwarded
+forwardedOf v s = record { value = v; state = s }
+
+abbrev pub rootedOf : List ℕ → State → Rooted
+rootedOf roots s = record { roots = roots; state = s }
+
+-- the queue has its links, as many as there are labels
+pub record Queued (labels links : List ℕ) (g : Gather) : Type 0 where
+  pub each : length links ≡ length labels
+  pub tail : g .tail ≤ length links
+
+-- and no page of the block below the cursor is free: the first free page from the cursor on is the lowest
+pub record Tied (k : Shape) (labels links : List ℕ) (g : Gather) : Type 0 where
+  pub queued : Queued labels links g
+  pub cursor : lowestFree labels (g .cursor) (k .pages) ≡ lowestFree labels 1 (k .pages)
+
+-- ---- what the steps of a `Gather` leave
+
+-- a hinted page joined the queue
+abbrev pub joined : Gather → Gather
+joined g = record { tail = g .tail + 1; cursor = g .cursor; copy = g .copy; fill = g .fill; objects = g .objects; words = g .words }
+
+-- page q joined it, to be copied to
+abbrev pub taken : Gather → ℕ → Gather
+taken g q = record { tail = g .tail + 1; cursor = q + 1; copy = q; fill = 0; objects = g .objects; words = g .words }
+
+-- an object of n words was put at the fill
+abbrev pub copied : Gather → ℕ → Gather
+copied g n = record { tail = g .tail; cursor = g .cursor; copy = g .copy; fill = g .fill + n; objects = g .objects + 1; words = g .words + n }
+
+-- before the first step
+abbrev pub beginOf : Record → Gather
+beginOf r = record { tail = 0; cursor = 1; copy = 0; fill = r .page; objects = 0; words = 0 }
+
+abbrev pub shapeOf : Record → Shape
+shapeOf r = record { page = r .page; pages = r .pages; old = r .label; new = otherLabel (r .label) }
+
+-- the answer after the last step, where n pages were hinted
+abbrev pub answerOf : Record → ℕ → Gather → Collected
+answerOf r n g = record {
+  refusal = 0;
+  hinted = n;
+  taken = g .tail - n;
+  objects = g .objects;
+  words = g .words;
+  rec = opening (relabelled r (otherLabel (r .label))) (g .copy) (g .fill);
+}
+
+-- ---- before the steps
+
+-- page g is in use and has no mark
+abbrev pub unmarked : List ℕ → List Bool → ℕ → Bool
+unmarked labels marks g = not (isFree labels g) && not (getD marks g false)

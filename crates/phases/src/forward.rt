@@ -1,0 +1,152 @@
+// Forwarding: pages taken for copies, the copy of an object, one value, and step 2, the roots.
+use crate::Gather;
+use crate::Shape;
+use layout::header;
+use layout::record;
+use layout::tables;
+ghost use mathlib.Core.Path.{_≡_};
+ghost use mathlib.Core.Logic.{_⊎_};
+ghost use Prim.Native.Nat.{_+_, _*_, _≤_, _<_};
+ghost use lib.ListN.{length, set, take, drop};
+ghost use lib.Seq.{sets};
+ghost use Rattle.rules.specs.Ranges.{at};
+ghost use Rattle.rules.specs.Header.{sizeOf};
+ghost use Rattle.rules.specs.Collection.{takePage, withRoom, copyObject, forward, forwardRoots};
+ghost use Rattle.laws.specs.Safe.{SafeTake, SafeCopy, SafeForward, SafeRoots};
+ghost use Rattle.phases.specs.Code.{plan, pagesOf, stateOf, forwardedOf, rootedOf, Tied};
+
+// What forwarding gives: the value, and the state after it.
+pub struct Moved {
+    pub value: u32,
+    pub gather: Gather,
+}
+
+// The lowest-numbered free page is taken. No page below the cursor is free, so a whole collection looks
+// at each label once.
+pub fn take_page(labels: &mut [u16], links: &mut [u16], k: Shape, g: Gather) -> Gather
+    requires { ⌜ SafeTake (plan k) (pagesOf (now labels) (now links) g) ⌝ }
+    requires { ⌜ Tied k (now labels) (now links) g ⌝ }
+    ensures { λ r. ⌜ pagesOf (now (labels .exit)) (now (links .exit)) r ≡ takePage (plan k) (pagesOf (now (labels .entry)) (now (links .entry)) g) ⌝ }
+    ensures { λ r. ⌜ Tied k (now (labels .exit)) (now (links .exit)) r ⌝ }
+    ensures { λ r. ⌜ (r .objects ≡ g .objects) × (r .words ≡ g .words) ⌝ }
+{
+    let page = tables::lowest_free(labels, g.cursor, k.pages);
+    let at = page as usize;
+    labels[at] = k.new;
+    let tail = g.tail as usize;
+    links[tail] = page as u16;
+    g.taken(page)
+}
+
+// Room for n words on the copy page: this one if they fit, otherwise a page taken.
+pub fn with_room(labels: &mut [u16], links: &mut [u16], k: Shape, g: Gather, n: u32) -> Gather
+    requires { ⌜ g .fill ≤ k .page ⌝ }
+    requires { ⌜ (k .page < g .fill + n → SafeTake (plan k) (pagesOf (now labels) (now links) g)) ⌝ }
+    requires { ⌜ Tied k (now labels) (now links) g ⌝ }
+    ensures { λ r. ⌜ pagesOf (now (labels .exit)) (now (links .exit)) r ≡ withRoom (plan k) n (pagesOf (now (labels .entry)) (now (links .entry)) g) ⌝ }
+    ensures { λ r. ⌜ Tied k (now (labels .exit)) (now (links .exit)) r ⌝ }
+    ensures { λ r. ⌜ (r .objects ≡ g .objects) × (r .words ≡ g .words) ⌝ }
+{
+    if n <= k.page - g.fill {
+        return g;
+    }
+    take_page(labels, links, k, g)
+}
+
+// n words from address x on to address y on. The two parts do not meet, so word by word will do.
+pub fn copy_words(heap: &mut [u32], x: usize, y: usize, n: usize)
+    requires { ⌜ (x + n ≤ length (now heap)) × (y + n ≤ length (now heap)) ⌝ }
+    requires { ⌜ (x + n ≤ y) ⊎ (y + n ≤ x) ⌝ }
+    ensures { λ _. ⌜ now (heap .exit) ≡ sets (now (heap .entry)) y (take n (drop x (now (heap .entry)))) ⌝ }
+{
+    let mut i = 0;
+    while i < n {
+        heap[y + i] = heap[x + i];
+        i += 1;
+    }
+}
+
+// The object at this address, which is still to be copied, is copied whole. An even word, twice the new address, is
+// planted in place of its header before any of its references is looked at.
+pub fn copy_object(
+    heap: &mut [u32],
+    labels: &mut [u16],
+    links: &mut [u16],
+    k: Shape,
+    start: Gather,
+    address: u32,
+) -> Moved
+    requires { ⌜ SafeCopy (plan k) (sizeOf (at (now heap) address)) address (stateOf (now heap) (now labels) (now links) start) ⌝ }
+    requires { ⌜ address < length (now heap) ⌝ }
+    requires { ⌜ Tied k (now labels) (now links) start ⌝ }
+    ensures { λ r. ⌜ forwardedOf (r .value) (stateOf (now (heap .exit)) (now (labels .exit)) (now (links .exit)) (r .gather)) ≡ copyObject (plan k) address (stateOf (now (heap .entry)) (now (labels .entry)) (now (links .entry)) start) ⌝ }
+    ensures { λ r. ⌜ Tied k (now (labels .exit)) (now (links .exit)) (r .gather) ⌝ }
+{
+    let x = address as usize;
+    let n = header::size_of(heap[x]);
+    let g = with_room(labels, links, k, start, n as u32);
+    let top = g.copy * k.page + g.fill;
+    copy_words(heap, x, top as usize, n);
+    heap[x] = 2 * top;
+    let gather = g.copied(n as u32);
+    Moved { value: top, gather }
+}
+
+// One value: 0 gives 0, an object on a page with the new label gives itself, an object already copied
+// gives its copy, and any other object is copied.
+pub fn forward(
+    heap: &mut [u32],
+    labels: &mut [u16],
+    links: &mut [u16],
+    k: Shape,
+    gather: Gather,
+    value: u32,
+) -> Moved
+    requires { ⌜ SafeForward (plan k) value (stateOf (now heap) (now labels) (now links) gather) ⌝ }
+    requires { ⌜ Tied k (now labels) (now links) gather ⌝ }
+    ensures { λ r. ⌜ forwardedOf (r .value) (stateOf (now (heap .exit)) (now (labels .exit)) (now (links .exit)) (r .gather)) ≡ forward (plan k) value (stateOf (now (heap .entry)) (now (labels .entry)) (now (links .entry)) gather) ⌝ }
+    ensures { λ r. ⌜ Tied k (now (labels .exit)) (now (links .exit)) (r .gather) ⌝ }
+{
+    if value == 0 {
+        return Moved { value: 0, gather };
+    }
+    let page = (value / k.page) as usize;
+    if labels[page] == k.new {
+        return Moved { value, gather };
+    }
+    let x = value as usize;
+    let word = heap[x];
+    if word % 2 == 0 {
+        return Moved {
+            value: word / 2,
+            gather,
+        };
+    }
+    copy_object(heap, labels, links, k, gather, value)
+}
+
+// Step 2: each root cell, in order and in place.
+pub fn forward_roots(
+    heap: &mut [u32],
+    labels: &mut [u16],
+    links: &mut [u16],
+    k: Shape,
+    start: Gather,
+    roots: &mut [u32],
+) -> Gather
+    requires { ⌜ SafeRoots (plan k) (now roots) (stateOf (now heap) (now labels) (now links) start) ⌝ }
+    requires { ⌜ Tied k (now labels) (now links) start ⌝ }
+    ensures { λ r. ⌜ rootedOf (now (roots .exit)) (stateOf (now (heap .exit)) (now (labels .exit)) (now (links .exit)) r) ≡ forwardRoots (plan k) (now (roots .entry)) (stateOf (now (heap .entry)) (now (labels .entry)) (now (links .entry)) start) ⌝ }
+    ensures { λ r. ⌜ Tied k (now (labels .exit)) (now (links .exit)) r ⌝ }
+{
+    let mut g = start;
+    let mut i = 0;
+    while i < roots.len() {
+        let value = roots[i];
+        let moved = forward(heap, labels, links, k, g, value);
+        roots[i] = moved.value;
+        g = moved.gather;
+        i += 1;
+    }
+    g
+}

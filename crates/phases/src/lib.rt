@@ -1,0 +1,145 @@
+// The four steps of a collection: hints, roots, the queue, freeing; and, before them, the count of pages
+// that no hint names. These are no calls for users. What `run` and its helpers do is safe only where the
+// tests of collect have passed: their `requires` say so, by the predicates of `laws` (Safe.antt) that
+// follow the definitions step by step. Under it each equals its definition in `rules` (Collection.antt).
+pub mod forward;
+pub mod free;
+pub mod hints;
+pub mod sweep;
+pub mod unhinted;
+
+use layout::pages;
+use layout::tables;
+use rules::Collected;
+use rules::Record;
+ghost use mathlib.Core.Path.{_≡_};
+ghost use Prim.Native.Nat.{_+_, _≤_, _<_};
+ghost use Rattle.rules.specs.Lent.{lent};
+ghost use Rattle.rules.specs.Collection.{plainly, planOf, collection};
+ghost use Rattle.rules.specs.Collect.{collectOutcome, acceptedCollect};
+ghost use Rattle.laws.specs.Valid.{Layout};
+ghost use Rattle.laws.specs.Safe.{SafeRun};
+ghost use Rattle.phases.specs.Code.{joined, taken, copied, beginOf, shapeOf, answerOf};
+
+// What stays the same during a collection: P, T, the old label and the new one.
+pub struct Shape {
+    pub page: u32,
+    pub pages: u32,
+    pub old: u32,
+    pub new: u16,
+}
+
+// The state of a collection beside the lent slices. The queue is links[0..tail); no page below the cursor
+// is free; copies go to the page `copy`, 0 before the first, at its fill; objects and words were copied.
+pub struct Gather {
+    pub tail: u32,
+    pub cursor: u32,
+    pub copy: u32,
+    pub fill: u32,
+    pub objects: u32,
+    pub words: u32,
+}
+
+impl Gather {
+    // A hinted page joined the queue.
+    pub fn joined(mut self) -> Gather
+        requires { ⌜ self .tail < 4096 ⌝ }
+        ensures { λ r. ⌜ r ≡ joined self ⌝ }
+    {
+        let tail = self.tail;
+        self.tail = tail + 1;
+        self
+    }
+
+    // Page g joined the queue, and copies go there from now on.
+    pub fn taken(mut self, g: u32) -> Gather
+        requires { ⌜ (self .tail < 4096) × (g < 4096) ⌝ }
+        ensures { λ r. ⌜ r ≡ taken self g ⌝ }
+    {
+        let tail = self.tail;
+        self.tail = tail + 1;
+        self.cursor = g + 1;
+        self.copy = g;
+        self.fill = 0;
+        self
+    }
+
+    // An object of n words was put at the fill.
+    pub fn copied(mut self, n: u32) -> Gather
+        requires { ⌜ (self .fill + n ≤ 4194304) × (self .objects ≤ 4194304) × (self .words ≤ 4194304) ⌝ }
+        ensures { λ r. ⌜ r ≡ copied self n ⌝ }
+    {
+        let fill = self.fill;
+        let objects = self.objects;
+        let words = self.words;
+        self.fill = fill + n;
+        self.objects = objects + 1;
+        self.words = words + n;
+        self
+    }
+}
+
+// What a collection of a heap with this record keeps the same.
+pub fn shape_of(r: Record) -> Shape
+    ensures { λ k. ⌜ k ≡ shapeOf r ⌝ }
+{
+    Shape {
+        page: r.page,
+        pages: r.pages,
+        old: r.label,
+        new: pages::other_label(r.label) as u16,
+    }
+}
+
+// Before the first step. With no copy page the fill is P, so that nothing fits.
+pub fn begin(r: Record) -> Gather
+    ensures { λ g. ⌜ g ≡ beginOf r ⌝ }
+{
+    Gather {
+        tail: 0,
+        cursor: 1,
+        copy: 0,
+        fill: r.page,
+        objects: 0,
+        words: 0,
+    }
+}
+
+// The answer after the last step, where `hinted` pages were hinted. The queue's other pages were taken.
+pub fn answer(r: Record, hinted: u32, g: Gather) -> Collected
+    requires { ⌜ hinted ≤ g .tail ⌝ }
+    ensures { λ c. ⌜ c ≡ answerOf r hinted g ⌝ }
+{
+    let relabelled = r.relabelled(pages::other_label(r.label));
+    let rec = relabelled.opening(g.copy, g.fill);
+    Collected {
+        refusal: 0,
+        hinted,
+        taken: g.tail - hinted,
+        objects: g.objects,
+        words: g.words,
+        rec,
+    }
+}
+
+// The four steps, on a heap that passed the tests of collect.
+pub fn run(
+    heap: &mut [u32],
+    labels: &mut [u16],
+    links: &mut [u16],
+    r: Record,
+    roots: &mut [u32],
+    hints: &[u32],
+) -> Collected
+    requires { ⌜ Layout (lent (now heap) (now labels) (now links) r) (r .page) (r .pages) ⌝ }
+    requires { ⌜ SafeRun (planOf (lent (now heap) (now labels) (now links) r) plainly) (lent (now heap) (now labels) (now links) r) (now roots) (now hints) ⌝ }
+    ensures { λ c. ⌜ collectOutcome c (now (heap .exit)) (now (labels .exit)) (now (links .exit)) (now (roots .exit)) ≡ acceptedCollect (collection plainly (lent (now (heap .entry)) (now (labels .entry)) (now (links .entry)) r) (now (roots .entry)) (now (hints .entry))) ⌝ }
+{
+    let k = shape_of(r);
+    let hinted = hints::hint_words(labels, links, k, begin(r), hints);
+    let rooted = forward::forward_roots(heap, labels, links, k, hinted, roots);
+    let swept = sweep::sweep_queue(heap, labels, links, k, rooted);
+    free::free_pages(heap, labels, k);
+    tables::clear16(links);
+    answer(r, hinted.tail, swept)
+}
