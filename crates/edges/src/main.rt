@@ -1,8 +1,9 @@
 // Document 01's edges, run on the code: a line for each, what was asked and what it answers. Its stdout is what the paper
 // says. The starred ones are also one table under one theorem (rules/specs/Edges.antt).
+mod calls;
 
 // A line: the question and its answer.
-fn line(asked: &[u8], answer: u64) {
+pub fn line(asked: &[u8], answer: u64) {
     io::write_all(1, asked);
     io::print_decimal(1, answer);
     io::write_all(1, b"\n");
@@ -48,21 +49,11 @@ fn needed() {
     );
 }
 
-// 1 for a shape that is good.
-fn shape(asked: &[u8], page: u32, pages: u32) {
-    line(asked, layout::pages::is_shape(page, pages) as u64);
-}
-
-fn shapes() {
-    shape(b"P 12, T 6 is good: ", 12, 6);
-    shape(b"P 2048, T 6 is good: ", 2048, 6);
-    shape(b"P 8, T 2 is good: ", 8, 2);
-    shape(b"P 8, T 3 is good: ", 8, 3);
-}
-
 fn main() {
     headers();
     pages();
     needed();
-    shapes();
+    calls::starts();
+    calls::allocations();
+    calls::collections();
 }

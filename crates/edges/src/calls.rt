@@ -1,0 +1,181 @@
+// The edges that need a call.
+use crate::line;
+use rules::Record;
+
+fn none() -> Record {
+    Record {
+        page: 0,
+        pages: 0,
+        label: 0,
+        opened: 0,
+        fill: 0,
+    }
+}
+
+// The refusal of a start with this P and T, on memory of the lengths that they ask for.
+fn start(
+    asked: &[u8],
+    heap: &mut [u32],
+    labels: &mut [u16],
+    links: &mut [u16],
+    page: u32,
+    pages: u32,
+) {
+    let a = heap::start(heap, labels, links, none(), page, pages);
+    line(asked, a.refusal as u64);
+}
+
+pub fn starts() {
+    start(
+        b"refusal of a start with P 12: ",
+        &mut [7u32; 72],
+        &mut [7u16; 6],
+        &mut [7u16; 6],
+        12,
+        6,
+    );
+    start(
+        b"refusal of a start with P 2048: ",
+        &mut [7u32; 12288],
+        &mut [7u16; 6],
+        &mut [7u16; 6],
+        2048,
+        6,
+    );
+    start(
+        b"refusal of a start with T 2: ",
+        &mut [7u32; 16],
+        &mut [7u16; 2],
+        &mut [7u16; 2],
+        8,
+        2,
+    );
+    start(
+        b"refusal of a start with T 3: ",
+        &mut [7u32; 24],
+        &mut [7u16; 3],
+        &mut [7u16; 3],
+        8,
+        3,
+    );
+}
+
+// The refusal of an allocation, and the record after it.
+fn allocate(
+    asked: &[u8],
+    heap: &mut [u32],
+    labels: &mut [u16],
+    links: &[u16],
+    r: Record,
+    d: u32,
+    p: u32,
+) -> Record {
+    let a = heap::allocate(heap, labels, links, r, d, p);
+    line(asked, a.refusal as u64);
+    a.rec
+}
+
+// P 8, T 6, so that N is 5.
+fn allocations_on(heap: &mut [u32], labels: &mut [u16], links: &mut [u16]) {
+    let fresh = heap::start(heap, labels, links, none(), 8, 6).rec;
+    let r0 = allocate(
+        b"* refusal of d 8 with P 8: ",
+        heap,
+        labels,
+        links,
+        fresh,
+        8,
+        0,
+    );
+    let r1 = allocate(b"* refusal of d 3, p 4: ", heap, labels, links, r0, 3, 4);
+    let r2 = allocate(b"* refusal of d 7: ", heap, labels, links, r1, 7, 0);
+    let r3 = allocate(
+        b"* refusal of a new page with N 5, k 1: ",
+        heap,
+        labels,
+        links,
+        r2,
+        7,
+        0,
+    );
+    let r4 = allocate(
+        b"* refusal of a new page with N 5, k 2: ",
+        heap,
+        labels,
+        links,
+        r3,
+        7,
+        0,
+    );
+    allocate(
+        b"* refusal of d 3, p 4 when 3 applies: ",
+        heap,
+        labels,
+        links,
+        r4,
+        3,
+        4,
+    );
+}
+
+pub fn allocations() {
+    allocations_on(&mut [7u32; 48], &mut [7u16; 6], &mut [7u16; 6]);
+}
+
+fn payload(
+    asked: &[u8],
+    heap: &[u32],
+    labels: &[u16],
+    links: &[u16],
+    r: Record,
+    address: u32,
+    index: u32,
+) {
+    let a = heap::load(heap, labels, links, r, address, index);
+    line(asked, a.value as u64);
+}
+
+fn root(asked: &[u8], roots: &[u32], i: usize) {
+    if i < roots.len() {
+        line(asked, layout::header::wide(roots[i]) as u64);
+    }
+}
+
+// An object with a reference to itself and a data word that looks like its address, in two root cells. The one hint names
+// no page.
+fn collections_on(heap: &mut [u32], labels: &mut [u16], links: &mut [u16], roots: &mut [u32]) {
+    let fresh = heap::start(heap, labels, links, none(), 8, 6).rec;
+    let r = heap::allocate(heap, labels, links, fresh, 2, 1).rec;
+    heap::store(heap, labels, links, r, 8, 0, 8);
+    heap::store(heap, labels, links, r, 8, 1, 8);
+    let c = collector::collect(heap, labels, links, r, roots, &[0u32; 1]).rec;
+    root(b"the first of two root cells with one address: ", roots, 0);
+    root(b"the second: ", roots, 1);
+    payload(
+        b"the reference to its own object: ",
+        heap,
+        labels,
+        links,
+        c,
+        16,
+        0,
+    );
+    payload(
+        b"the data word that looks like an address: ",
+        heap,
+        labels,
+        links,
+        c,
+        16,
+        1,
+    );
+}
+
+pub fn collections() {
+    collections_on(
+        &mut [7u32; 48],
+        &mut [7u16; 6],
+        &mut [7u16; 6],
+        &mut [8u32; 2],
+    );
+}
