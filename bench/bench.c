@@ -1,0 +1,235 @@
+/* bench.c: the same work for the library and for plain C, to count instructions over. Built twice from this source: over the archive, and
+   with -DOVER_PLAIN over bench/plain.c. bench/run counts both and prints a table.
+
+   bench list                      every workload, a line each: its words, and how often it is made
+   bench MODE REPEATS WORDS..      MODE call: makes the calls; base: all but the calls; tests (collect alone): a root cell more, that is
+                                   no object, so that every test of a collection is made and nothing is copied
+   Prints a sum over the answers, the same for both builds. What is counted is the difference of two modes, so that neither the making of
+   heaps nor the restoring of memory between collections is part of it. */
+#include "fouterpin.h"
+
+#include <inttypes.h>
+#include <stdio.h>
+#include <stdlib.h>
+#include <string.h>
+
+#ifdef OVER_PLAIN
+#include "plain.h"
+#define CALL(name) plain_##name
+#else
+#define CALL(name) fouterpin_##name
+#endif
+
+enum { most_pages = 4096, most_words = 1024 * 4096, most_list = 8192 };
+static uint32_t heap[most_words], heap_kept[most_words];
+static uint16_t labels[most_pages], labels_kept[most_pages], links[most_pages];
+static uint32_t roots[most_list], roots_kept[most_list], hints[most_list];
+static size_t roots_len, hints_len;
+static fouterpin_record rec;
+static uint64_t sum;
+
+#define LENT heap, (size_t)rec.page *rec.pages, labels, rec.pages, links, rec.pages, rec
+
+/* Objects in order of their making. */
+static uint32_t made[most_words / 2];
+static uint32_t made_len;
+
+static uint64_t random_state = 1;
+static uint32_t below(uint32_t n)
+{
+  random_state = random_state * UINT64_C(6364136223846793005) + UINT64_C(1442695040888963407);
+  return (uint32_t)(random_state >> 33) % n;
+}
+
+static void begin(uint32_t page, uint32_t pages)
+{
+  rec.page = page;
+  rec.pages = pages;
+  rec.label = 1;
+  rec.opened = 0;
+  rec.fill = page;
+  made_len = 0;
+}
+
+/* Objects of d payload words, p references, until `used` pages are full: written directly, by neither side. */
+static void fill_pages(uint32_t used, uint32_t d, uint32_t p)
+{
+  uint32_t which, at;
+  for (which = 1; which <= used; which++) {
+    labels[which] = 1;
+    for (at = 0; at + d + 1 <= rec.page; at += d + 1) {
+      made[made_len++] = which * rec.page + at;
+      heap[which * rec.page + at] = (d + 1) << 16 | p << 1 | 1;
+    }
+    rec.opened = which;
+    rec.fill = at;
+  }
+}
+
+static void shuffle_made(void)
+{
+  uint32_t i;
+  for (i = made_len; i > 1; i--) {
+    uint32_t j = below(i), t = made[j];
+    made[j] = made[i - 1];
+    made[i - 1] = t;
+  }
+}
+
+static void counted(fouterpin_answer a)
+{
+  if (a.refusal != 0) {
+    printf("refused with %" PRIu32 "\n", a.refusal);
+    exit(1);
+  }
+  sum += a.value + a.record.fill;
+}
+
+/* Allocate at the same fill of the same open page again and again: the record goes in by value. */
+static void bench_fits(int calls, uint32_t repeats, uint32_t page, uint32_t d)
+{
+  uint32_t i;
+  begin(page, 64);
+  fill_pages(3, 0, 0);
+  rec.fill = 1;
+  for (i = 0; i < repeats; i++)
+    if (calls)
+      counted(CALL(allocate)(LENT, d, 1));
+}
+
+/* Allocate that takes a page, with a third of the pages in use; the page's label is taken back. */
+static void bench_page(int calls, uint32_t repeats, uint32_t page, uint32_t pages)
+{
+  uint32_t i, used = pages / 3 - 2;
+  begin(page, pages);
+  fill_pages(used, 0, 0);
+  rec.fill = page;
+  for (i = 0; i < repeats; i++) {
+    if (calls)
+      counted(CALL(allocate)(LENT, 2, 1));
+    labels[used + 1] = 0;
+  }
+}
+
+/* Load and store go over all objects of a page in turn, so that the walk is half a page long at the mean. */
+static void bench_word(const char *what, int calls, uint32_t repeats, uint32_t page, uint32_t d)
+{
+  uint32_t i, n;
+  begin(page, 64);
+  fill_pages(2, d, 1);
+  n = made_len / 2;
+  for (i = 0; i < repeats; i++) {
+    uint32_t object = made[i % n];
+    if (calls) {
+      if (what[0] == 'l')
+        counted(CALL(load)(LENT, object, 1));
+      else if (what[0] == 'n')
+        counted(CALL(store)(LENT, object, 1, i));
+      else
+        counted(CALL(store)(LENT, object, 0, made[n + (i + n / 2) % n]));
+    }
+  }
+}
+
+/* A live structure over a third of the pages. */
+static void build(const char *shape, uint32_t page, uint32_t pages)
+{
+  uint32_t i, used = pages / 3 - 1;
+  begin(page, pages);
+  roots_len = 1;
+  if (strcmp(shape, "list") == 0 || strcmp(shape, "shuffled") == 0) {
+    fill_pages(used, 3, 1);
+    if (shape[0] == 's')
+      shuffle_made();
+    for (i = 0; i + 1 < made_len; i++)
+      heap[made[i] + 1] = made[i + 1];
+    roots[0] = made[0];
+  } else if (strcmp(shape, "tree") == 0) {
+    fill_pages(used, 3, 2);
+    for (i = 1; i < made_len; i++)
+      heap[made[(i - 1) / 2] + 1 + (i - 1) % 2] = made[i];
+    roots[0] = made[0];
+  } else if (strcmp(shape, "arrays") == 0) {
+    fill_pages(used, page - 1, 0);
+    for (i = 0; i < made_len; i++)
+      roots[i] = made[i];
+    roots_len = made_len;
+  } else if (strcmp(shape, "dead") == 0) {
+    fill_pages(used, 3, 1);
+    roots[0] = made[made_len / 2];
+  } else {
+    printf("no such shape\n");
+    exit(2);
+  }
+}
+
+static void bench_collect(const char *mode, uint32_t repeats, const char *shape, uint32_t page, uint32_t pages, uint32_t hinted)
+{
+  size_t words = (size_t)page * pages, i;
+  uint32_t r;
+  build(shape, page, pages);
+  hints_len = hinted;
+  for (i = 0; i < hints_len; i++)
+    hints[i] = below((uint32_t)words);
+  if (mode[0] == 't')
+    roots[roots_len++] = made[0] + 1;
+  memcpy(heap_kept, heap, words * sizeof *heap);
+  memcpy(labels_kept, labels, pages * sizeof *labels);
+  memcpy(roots_kept, roots, roots_len * sizeof *roots);
+  for (r = 0; r < repeats; r++) {
+    memcpy(heap, heap_kept, words * sizeof *heap);
+    memcpy(labels, labels_kept, pages * sizeof *labels);
+    memcpy(roots, roots_kept, roots_len * sizeof *roots);
+    if (mode[0] != 'b') {
+      fouterpin_collected c = CALL(collect)(LENT, roots, roots_len, hints, hints_len);
+      if (c.refusal != (mode[0] == 't' ? 6 : 0)) {
+        printf("refused with %" PRIu32 "\n", c.refusal);
+        exit(1);
+      }
+      sum += c.hinted + 3 * (uint64_t)c.taken + 5 * (uint64_t)c.objects + 7 * (uint64_t)c.words + roots[0];
+    }
+  }
+}
+
+static const char *const workloads[] = {
+  "20000 fits 8 2", "20000 fits 128 2", "20000 fits 1024 2", "5000 fits 1024 900",
+  "5000 page 8 64", "1000 page 8 1024", "300 page 8 4096", "1000 page 128 1024",
+  "20000 load 8 3", "20000 load 128 3", "5000 load 1024 3", "5000 load 1024 60",
+  "20000 number 8 3", "20000 number 128 3", "5000 number 1024 3", "5000 number 1024 60",
+  "20000 reference 8 3", "20000 reference 128 3", "5000 reference 1024 3", "5000 reference 1024 60",
+  "100 collect list 8 64 0", "20 collect list 128 64 0", "4 collect list 1024 64 0", "1 collect list 1024 1024 0",
+  "4 collect list 128 1024 0", "2 collect list 128 4096 0", "10 collect list 8 4096 0",
+  "20 collect shuffled 128 64 0", "4 collect shuffled 128 1024 0", "2 collect shuffled 128 4096 0",
+  "20 collect tree 128 64 0", "4 collect tree 128 1024 0", "2 collect tree 128 4096 0",
+  "20 collect arrays 128 64 0", "4 collect arrays 128 1024 0", "2 collect arrays 128 4096 0",
+  "20 collect dead 128 64 0", "4 collect dead 128 1024 0", "2 collect dead 128 4096 0",
+  "4 collect list 128 1024 16", "4 collect list 128 1024 8192", "2 collect list 128 4096 8192", "20 collect list 128 64 8192",
+};
+
+static uint32_t number(char **argv, int at) { return (uint32_t)strtoul(argv[at], NULL, 10); }
+
+int main(int argc, char **argv)
+{
+  size_t i;
+  int calls;
+  uint32_t repeats;
+  if (argc == 2 && strcmp(argv[1], "list") == 0) {
+    for (i = 0; i < sizeof workloads / sizeof *workloads; i++)
+      puts(workloads[i]);
+    return 0;
+  }
+  if (argc < 6)
+    return fprintf(stderr, "bench list | bench MODE REPEATS WORDS..\n"), 2;
+  calls = argv[1][0] != 'b';
+  repeats = number(argv, 2);
+  if (strcmp(argv[3], "fits") == 0)
+    bench_fits(calls, repeats, number(argv, 4), number(argv, 5));
+  else if (strcmp(argv[3], "page") == 0)
+    bench_page(calls, repeats, number(argv, 4), number(argv, 5));
+  else if (strcmp(argv[3], "collect") == 0 && argc == 8)
+    bench_collect(argv[1], repeats, argv[4], number(argv, 5), number(argv, 6), number(argv, 7));
+  else
+    bench_word(argv[3], calls, repeats, number(argv, 4), number(argv, 5));
+  printf("%" PRIu64 "\n", sum);
+  return 0;
+}

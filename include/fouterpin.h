@@ -1,0 +1,129 @@
+/* fouterpin.h: the calls of Fouterpin, a mostly-copying collected heap (Bartlett 1988), for C.
+
+   The functions are those of the crate `solver`; each is proved equal to document 01's rules, for every input. `rt staticlib solver`
+   writes the archive target/staticlib/libsolver.a, for x86-64 Linux. Of C's library it wants memset, memcpy and memmove at most, and no
+   other; it allocates nothing, keeps no state between calls and never ends the program. Collect takes some 4.5 KB of stack, the others
+   a few hundred bytes. A C program links it as it is:
+
+       cc -Iinclude program.c target/staticlib/libsolver.a -o program
+
+   with or without -static, -pie and -fPIE. On an Arm machine compile with x86_64-linux-gnu-gcc -static and run by qemu-x86_64.
+
+   WORDS AND ADDRESSES. The heap is an array of 32-bit words in `pages` pages of `page` words. An address is a word's place in that array, no
+   pointer: address a is heap[a]. Page 0 is never given out, so address 0 is nil. An object of d payload words, the first p of them
+   references, takes d + 1 words; its address is that of its header, and payload word i is heap[address + 1 + i].
+
+   LENT MEMORY. Every call is lent the caller's arrays for its own length only; nothing is kept after it returns, so the caller may
+   move or free them between calls, as long as the next call sees the same words in arrays of the same lengths.
+     heap    exactly page * pages words      the objects
+     labels  exactly pages 16-bit numbers    0 for a free page, else the current label, 1 or 2
+     links   exactly pages 16-bit numbers    the collection's queue; scratch, no answer depends on what it held
+     roots   any number of words             collect alone: cells that hold 0 or an object's address; collect corrects them
+     hints   any number of words             collect alone: any words, such as the stack and the registers; never written
+   A length is checked and not trusted, but it must be true: the array behind a pointer has at least that many elements. A pointer is
+   never NULL and is aligned for its type, even where its length is 0 (then nothing is read or written through it). No two arrays of one
+   call overlap; hints are no exception. The calls hold no lock: calls on one heap are made one at a time, calls on different heaps
+   need not be.
+
+   THE RECORD goes in by value and comes back in the answer. Give each call the record that the last one returned, after a refusal too
+   (it is then the one given). Its fields are for reading; any other numbers in it are refused with 1 or, where they are valid
+   (fouterpin_start alone takes any), believed.
+
+   LIFETIME OF AN OBJECT. Between collections no object moves. A collection keeps the objects on pages that a hint names, where they
+   are; it moves every other object that can be reached from those or from a root cell; it forgets the rest and zeroes their pages.
+   After it, an address is good only if it was read from a root cell, read from a reference of an object that stayed, or named an object
+   on a hinted page. fouterpin_load and fouterpin_store refuse what is no object's address, but a stale address may by chance be
+   another object's.
+
+   REFUSALS. Each answer begins with a refusal number, 0 where the call was accepted. A refused call has changed nothing: not one
+   word, label, link or root; its value (for collect, its four counts) is 0 and its record is the one given. Tests go in the order of the
+   numbers, except that collect tests 1, 7, 6, 8. */
+#ifndef FOUTERPIN_H
+#define FOUTERPIN_H
+
+#include <stddef.h>
+#include <stdint.h>
+
+#ifdef __cplusplus
+extern "C" {
+#endif
+
+enum {
+  FOUTERPIN_ACCEPTED = 0,
+  FOUTERPIN_LAYOUT = 1,        /* all five: a wrong length, page size, number of pages or record */
+  FOUTERPIN_SHAPE = 2,         /* allocate: d is above page - 1, or p above d */
+  FOUTERPIN_COLLECT_FIRST = 3, /* allocate: it does not fit in the open page, and a new page would leave too few free to collect */
+  FOUTERPIN_NO_OBJECT = 4,     /* load, store: the address is not that of an object */
+  FOUTERPIN_INDEX = 5,         /* load, store: the index is not below d */
+  FOUTERPIN_BAD_REFERENCE = 6, /* store: a value for a reference, collect: a root cell, that is neither 0 nor an object's address */
+  FOUTERPIN_UNSOUND = 7,       /* collect: the heap is damaged (the whole of it is tested first) */
+  FOUTERPIN_NO_ROOM = 8        /* collect: the copies might need more pages than are free */
+};
+
+/* The control record. */
+typedef struct {
+  uint32_t page;   /* P, words in a page: a power of two from 8 to 1,024 */
+  uint32_t pages;  /* T, pages in the heap: 3 to 4,096 */
+  uint32_t label;  /* the current label, 1 or 2: that of every page in use */
+  uint32_t opened; /* the open page, where allocate puts objects: 1 to T - 1, or 0 for none */
+  uint32_t fill;   /* the first unused word's place in the open page: 1 to P; P where there is none */
+} fouterpin_record;
+
+/* What start, allocate, load and store answer. */
+typedef struct {
+  uint32_t refusal; /* 0, or why the call was refused */
+  uint32_t value;   /* allocate: the address; load: the word; start and store: 0 */
+  fouterpin_record record;
+} fouterpin_answer;
+
+/* What collect answers. */
+typedef struct {
+  uint32_t refusal;
+  uint32_t hinted;  /* pages that hints named: these stayed in place */
+  uint32_t taken;   /* free pages that were taken for copies */
+  uint32_t objects; /* objects copied */
+  uint32_t words;   /* words copied, headers among them */
+  fouterpin_record record;
+} fouterpin_collected;
+
+/* Begins a heap of `pages` pages of `page` words, 0 for 128: zeroes heap, labels and links, whatever they held. The record given may be
+   any; the one that comes back is the heap's first. Refused: 1. */
+fouterpin_answer fouterpin_start(uint32_t *heap, size_t heap_len, uint16_t *labels, size_t labels_len, uint16_t *links, size_t links_len,
+                                 fouterpin_record r, uint32_t page, uint32_t pages);
+
+/* Makes an object of d payload words, all 0, the first p of them references; its address is the value. It lives until a collection
+   does not reach it. Writes the header and d words, and the label of a page that it takes; nothing else. Refused: 1, 2, 3. After 3,
+   collect and try again; if 3 comes again, the heap is too small for what is live. */
+fouterpin_answer fouterpin_allocate(uint32_t *heap, size_t heap_len, uint16_t *labels, size_t labels_len, uint16_t *links, size_t links_len,
+                                    fouterpin_record r, uint32_t d, uint32_t p);
+
+/* The payload word at `index`, from 0, of the object at `address`. Writes nothing. Refused: 1, 4, 5. */
+fouterpin_answer fouterpin_load(const uint32_t *heap, size_t heap_len, const uint16_t *labels, size_t labels_len, const uint16_t *links,
+                                size_t links_len, fouterpin_record r, uint32_t address, uint32_t index);
+
+/* Writes that word and nothing else. Where it is a reference (index < p), the value must be 0 or an object's address; else any number
+   goes, and no collection follows or corrects it. Refused: 1, 4, 5, 6. */
+fouterpin_answer fouterpin_store(uint32_t *heap, size_t heap_len, uint16_t *labels, size_t labels_len, uint16_t *links, size_t links_len,
+                                 fouterpin_record r, uint32_t address, uint32_t index, uint32_t value);
+
+/* Collects. Every page in use that holds the place of a hint word stays, with all of its objects; everything else that is reached
+   from there or from the root cells is copied together, and every reference and root cell is corrected; all other pages are zeroed
+   and freed. A hint may be any word: an address inside an object keeps it as well as its own, and a number that is no address does no
+   harm but to keep a page. Refused: 1, 7, 6, 8. After 8, collect with fewer pages in use, or lend a larger heap: more hints may help, since a
+   page that stays needs no room. */
+fouterpin_collected fouterpin_collect(uint32_t *heap, size_t heap_len, uint16_t *labels, size_t labels_len, uint16_t *links, size_t links_len,
+                                      fouterpin_record r, uint32_t *roots, size_t roots_len, const uint32_t *hints, size_t hints_len);
+
+/* The page, 1 to pages - 1, in which the place `word` lies; 0 if there is none, and if `page` or `pages` is bad (0 is bad here). Looks at
+   no label: the page may be free. Refuses nothing. */
+uint32_t fouterpin_page_named(uint32_t word, uint32_t page, uint32_t pages);
+
+/* How many free pages a collection may need where no hint names `unhinted` of the pages in use: 0 for 0, else 2 * unhinted - 1; above
+   4,095 it is 4,294,967,295. Refuses nothing. */
+uint32_t fouterpin_pages_needed(uint32_t unhinted);
+
+#ifdef __cplusplus
+}
+#endif
+
+#endif

@@ -1,0 +1,236 @@
+/* clauses.c: shows of demand3.c that each of its clauses can fail. A collection worked out by hand passes; then one thing at a time is
+   changed, before or after or in the counts, and the search must name the clause that this breaks. Exit status 0 if it always does.
+
+   clauses       prints nothing but a tally, and each change that was judged otherwise
+
+   Not provoked are clauses of demand 3 that follow from those tested before them: that a page in use was hinted or holds a copy (a sound
+   page in use has an object, each object has its pair, and none from a hinted page has moved), that no hinted page is freed, that hinted
+   objects do not move (each is first paired with its own address), and that no reference followed is dangling (both heaps are sound).
+
+   The heap: 8 pages of 8 words. Before, page 1 is hinted and holds A at 8 (one reference, to C; data 77) and B at 11 (data 5); page 2
+   holds C at 16 (references to D and A; data 9) and D at 20 (a reference to itself); page 3 is open and holds E at 24, dead. Roots are
+   C, nil and D. After, C is at 32 and D at 36, on page 4. */
+#include "demand3.h"
+
+#include <stdio.h>
+#include <string.h>
+
+enum { page = 8, pages = 8, words = page * pages };
+
+typedef struct {
+  uint32_t heap[words];
+  uint16_t labels[pages], links[pages];
+  uint32_t roots[3];
+  size_t roots_len;
+  uint32_t record[5]; /* page, pages, label, opened, fill */
+} memory;
+
+static memory before, after;
+static uint32_t hints[2], counts[4];
+
+static uint32_t header(uint32_t d, uint32_t p) { return (d + 1) * 65536 + 2 * p + 1; }
+
+static void set_record(memory *m, uint32_t label, uint32_t opened, uint32_t fill)
+{
+  m->record[0] = page;
+  m->record[1] = pages;
+  m->record[2] = label;
+  m->record[3] = opened;
+  m->record[4] = fill;
+}
+
+static void put_a_and_b(memory *m, uint32_t a_to)
+{
+  m->heap[8] = header(2, 1);
+  m->heap[9] = a_to;
+  m->heap[10] = 77;
+  m->heap[11] = header(1, 0);
+  m->heap[12] = 5;
+}
+
+static void put_c_and_d(memory *m, uint32_t at)
+{
+  m->heap[at] = header(3, 2);
+  m->heap[at + 1] = at + 4;
+  m->heap[at + 2] = 8;
+  m->heap[at + 3] = 9;
+  m->heap[at + 4] = header(1, 1);
+  m->heap[at + 5] = at + 4;
+}
+
+static void make_case(void)
+{
+  memset(&before, 0, sizeof before);
+  memset(&after, 0, sizeof after);
+  put_a_and_b(&before, 16);
+  put_c_and_d(&before, 16);
+  before.heap[24] = header(1, 0);
+  before.labels[1] = before.labels[2] = before.labels[3] = 1;
+  before.roots[0] = 16;
+  before.roots[2] = 20;
+  before.roots_len = after.roots_len = 3;
+  set_record(&before, 1, 3, 2);
+  put_a_and_b(&after, 32);
+  put_c_and_d(&after, 32);
+  after.labels[1] = after.labels[4] = 2;
+  after.roots[0] = 32;
+  after.roots[2] = 36;
+  set_record(&after, 2, 4, 6);
+  hints[0] = 12;
+  hints[1] = 0;
+  counts[0] = 1;
+  counts[1] = 1;
+  counts[2] = 2;
+  counts[3] = 6;
+}
+
+static demand3_memory lend(const memory *m)
+{
+  demand3_memory d;
+  d.heap = m->heap;
+  d.heap_len = words;
+  d.labels = m->labels;
+  d.labels_len = pages;
+  d.links = m->links;
+  d.links_len = pages;
+  d.roots = m->roots;
+  d.roots_len = m->roots_len;
+  d.page = m->record[0];
+  d.pages = m->record[1];
+  d.label = m->record[2];
+  d.opened = m->record[3];
+  d.fill = m->record[4];
+  return d;
+}
+
+static int judged, wrong;
+
+/* Judges the case as it now stands, and makes it anew. */
+static void expect(const char *clause)
+{
+  demand3_memory b = lend(&before), a = lend(&after);
+  const char *why = demand3_collection(&b, &a, hints, 2, counts);
+  judged++;
+  if (clause == NULL ? why != NULL : why == NULL || strcmp(why, clause) != 0) {
+    printf("clauses: '%s' was awaited, and '%s' was found\n", clause == NULL ? "nothing" : clause, why == NULL ? "nothing" : why);
+    wrong++;
+  }
+  make_case();
+}
+
+static void soundness(void)
+{
+  before.heap[3] = 1, expect("the heap before was not sound");
+  after.record[0] = 9, expect("record: page size, pages or lengths");
+  after.record[1] = 9, expect("record: page size, pages or lengths");
+  after.record[2] = 3, expect("record: label");
+  after.record[4] = 0, expect("record: open page and fill");
+  after.record[4] = 9, expect("record: open page and fill");
+  after.record[3] = 8, expect("record: open page and fill");
+  after.record[3] = 0, expect("record: open page and fill");
+  after.record[3] = 2, expect("record: the open page's label");
+  after.labels[0] = 2, expect("page 0 is not free");
+  after.labels[6] = 1, expect("a label is neither 0 nor current");
+  after.labels[6] = 2, expect("a page in use has no object");
+  after.record[4] = 5, expect("the open page's objects do not end at fill");
+  after.heap[0] = 7, expect("a free page is not all zeros");
+  after.heap[47] = 7, expect("a free page is not all zeros");
+  after.heap[15] = 7, expect("a word behind a page's objects is not zero");
+  after.heap[9] = 33, expect("a reference is neither 0 nor an object");
+  after.heap[9] = 16, expect("a reference is neither 0 nor an object");
+  after.heap[9] = words, expect("a reference is neither 0 nor an object");
+  after.heap[36] = header(1, 2), expect("the open page's objects do not end at fill");
+}
+
+static void pairing(void)
+{
+  after.roots_len = 2, expect("the number of roots differs");
+  after.heap[10] = 78, expect("data words of a pair differ");
+  after.heap[35] = 10, expect("data words of a pair differ");
+  after.heap[11] = header(0, 0), after.heap[12] = header(0, 0), expect("sizes of a pair differ");
+  after.heap[32] = header(3, 1), expect("numbers of references of a pair differ");
+  after.heap[9] = 0, expect("a reference is nil on one side only");
+  after.heap[33] = 0, expect("a reference is nil on one side only");
+  after.heap[9] = 36, expect("references break the pairing");
+  after.roots[1] = 8, expect("a root is nil on one side only");
+  after.roots[2] = 0, expect("a root is nil on one side only");
+  after.roots[2] = 35, expect("a root is no object");
+  after.roots[2] = 20, expect("a root is no object");
+  after.roots[2] = 32, expect("roots break the pairing");
+  before.roots[2] = 16, expect("roots break the pairing");
+  /* E, which nothing reaches, is still there, behind D's copy */
+  after.heap[38] = header(1, 0), after.record[4] = 8, expect("an object remains that was not reached");
+  /* page 1 is freed and A moved */
+  memset(after.heap + 8, 0, 5 * sizeof after.heap[0]), after.labels[1] = 0;
+  after.heap[34] = 38, after.heap[38] = header(0, 0), after.record[4] = 7, expect("an object on a hinted page is gone");
+  /* C's copy refers to B where it should to A */
+  after.heap[34] = 11, expect("references break the pairing");
+  /* a hint that names page 2 as well: C and D should have stayed */
+  hints[1] = 23, expect("an object on a hinted page is gone");
+}
+
+/* Makes B and A change places: each page in use is as sound as it was. */
+static void hinted_objects_change_places(void)
+{
+  uint32_t a[3];
+  memcpy(a, after.heap + 8, sizeof a);
+  after.heap[8] = after.heap[11];
+  after.heap[9] = after.heap[12];
+  memcpy(after.heap + 10, a, sizeof a);
+  after.heap[34] = 10;
+  expect("an object on a hinted page is gone");
+}
+
+static void pages_and_counts(void)
+{
+  /* D's copy lies behind B, on the hinted page */
+  after.heap[13] = header(1, 1), after.heap[14] = 13, after.heap[33] = 13, after.roots[2] = 13;
+  after.heap[36] = after.heap[37] = 0, after.record[4] = 4, expect("a copy lies on a hinted page");
+  /* the copies lie on page 2, where C and D were */
+  memset(after.heap + 32, 0, 8 * sizeof after.heap[0]), put_c_and_d(&after, 16), after.heap[9] = 16, after.roots[0] = 16, after.roots[2] = 20;
+  after.labels[4] = 0, after.labels[2] = 2, after.record[3] = 2, expect("a page that was in use was taken for copies");
+  counts[0] = 0, expect("the count of pages hinted is wrong");
+  counts[1] = 2, expect("the count of pages taken is wrong");
+  counts[2] = 3, expect("the count of objects copied is wrong");
+  counts[3] = 4, expect("the count of words copied is wrong");
+  after.record[3] = 0, after.record[4] = 8, expect("the open page is none that was taken");
+  after.record[3] = 1, after.record[4] = 5, expect("the open page is none that was taken");
+  after.links[7] = 1, expect("a link is not 0");
+  after.record[2] = 1, after.labels[1] = after.labels[4] = 1, expect("the label has not changed");
+}
+
+/* One page in use and two taken: before, page 1 holds two objects; after, each has a page. */
+static void more_than_the_bound(void)
+{
+  memset(&before, 0, sizeof before);
+  memset(&after, 0, sizeof after);
+  before.heap[8] = header(0, 0);
+  before.heap[9] = header(0, 0);
+  before.labels[1] = 1;
+  before.roots[0] = 8;
+  before.roots[1] = 9;
+  before.roots_len = after.roots_len = 2;
+  set_record(&before, 1, 1, 2);
+  after.heap[16] = header(0, 0);
+  after.heap[24] = header(0, 0);
+  after.labels[2] = after.labels[3] = 2;
+  after.roots[0] = 16;
+  after.roots[1] = 24;
+  set_record(&after, 2, 3, 1);
+  hints[0] = 0;
+  expect("more pages were taken than the bound");
+}
+
+int main(void)
+{
+  make_case();
+  expect(NULL);
+  soundness();
+  pairing();
+  hinted_objects_change_places();
+  pages_and_counts();
+  more_than_the_bound();
+  expect(NULL);
+  printf("clauses: %d cases judged, %d wrongly\n", judged, wrong);
+  return wrong != 0;
+}

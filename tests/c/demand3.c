@@ -1,0 +1,256 @@
+/* demand3.c: demand 3, run. After an accepted collection there is a pairing of objects before with objects after; this file searches
+   for it, knowing nothing of how a collection works: it shares no code with the model, the library or the driver.
+
+   The search begins with the objects on hinted pages, each paired with its own address, and with the root cells, before with after;
+   it follows the references of each pair side by side. Where two sides differ, no pairing exists, since each step was forced. */
+#include "demand3.h"
+
+#include <stdlib.h>
+#include <string.h>
+
+/* Every address of an object, by its page's words: starts[a] is 1 if an object begins at a. The caller frees it. NULL if the memory's
+   numbers are out of range, so that nothing below divides by 0 or leaves the arrays. */
+static unsigned char *starts_of(const demand3_memory *m)
+{
+  unsigned char *starts;
+  size_t page, at;
+  int exponent, power_of_two = 0;
+  for (exponent = 3; exponent <= 10; exponent++)
+    power_of_two |= m->page == (uint32_t)1 << exponent;
+  if (!power_of_two || m->pages < 3 || m->pages > 4096 || m->heap_len != (size_t)m->page * m->pages || m->labels_len != m->pages ||
+      m->links_len != m->pages)
+    return NULL;
+  starts = calloc(m->heap_len, 1);
+  if (starts == NULL)
+    abort();
+  for (page = 1; page < m->pages; page++) {
+    size_t end = (page + 1) * m->page;
+    if (m->labels[page] != m->label)
+      continue;
+    for (at = end - m->page; at < end;) {
+      uint32_t total = m->heap[at] >> 16, references = (m->heap[at] & 0xffff) >> 1;
+      if ((m->heap[at] & 1) == 0 || total == 0 || references + 1 > total || at + total > end)
+        break;
+      starts[at] = 1;
+      at += total;
+    }
+  }
+  return starts;
+}
+
+static const char *unsound(const demand3_memory *m, const unsigned char *starts)
+{
+  size_t page, at, i;
+  if (m->label != 1 && m->label != 2)
+    return "record: label";
+  if (m->opened >= m->pages || (m->opened == 0 ? m->fill != m->page : m->fill < 1 || m->fill > m->page))
+    return "record: open page and fill";
+  if (m->opened != 0 && m->labels[m->opened] != m->label)
+    return "record: the open page's label";
+  if (m->labels[0] != 0)
+    return "page 0 is not free";
+  for (page = 0; page < m->pages; page++) {
+    size_t first = page * m->page, end = first + m->page, last = first;
+    if (m->labels[page] != 0 && m->labels[page] != m->label)
+      return "a label is neither 0 nor current";
+    if (m->labels[page] != 0) {
+      if (!starts[first])
+        return "a page in use has no object";
+      for (at = first; at < end; at++)
+        if (starts[at])
+          last = at + (m->heap[at] >> 16);
+    }
+    if (page == m->opened && page != 0 && last != first + m->fill)
+      return "the open page's objects do not end at fill";
+    for (at = last; at < end; at++)
+      if (m->heap[at] != 0)
+        return m->labels[page] == 0 ? "a free page is not all zeros" : "a word behind a page's objects is not zero";
+  }
+  for (at = 0; at < m->heap_len; at++)
+    if (starts[at])
+      for (i = 0; i < (m->heap[at] & 0xffff) >> 1; i++) {
+        uint32_t reference = m->heap[at + 1 + i];
+        if (reference != 0 && (reference >= m->heap_len || !starts[reference]))
+          return "a reference is neither 0 nor an object";
+      }
+  return NULL;
+}
+
+const char *demand3_unsound(const demand3_memory *m)
+{
+  unsigned char *starts = starts_of(m);
+  const char *why;
+  if (starts == NULL)
+    return "record: page size, pages or lengths";
+  why = unsound(m, starts);
+  free(starts);
+  return why;
+}
+
+/* The search: image[a] is the address after of the object at a before, 0 if not (yet) paired; preimage the other way. The list holds
+   the addresses before that are paired and not yet followed. */
+typedef struct {
+  const demand3_memory *before, *after;
+  unsigned char *starts_before, *starts_after, *hinted;
+  uint32_t *image, *preimage, *list;
+  size_t listed, followed;
+} search;
+
+/* The word a before and the word b after must be both nil or a pair. */
+static const char *must_pair(search *s, uint32_t a, uint32_t b, const char *not_nil, const char *no_object, const char *not_one_to_one)
+{
+  if (a == 0 || b == 0)
+    return a == b ? NULL : not_nil;
+  if (a >= s->before->heap_len || b >= s->after->heap_len || !s->starts_before[a] || !s->starts_after[b])
+    return no_object;
+  if (s->image[a] == b && s->preimage[b] == a)
+    return NULL;
+  if (s->image[a] != 0 || s->preimage[b] != 0)
+    return not_one_to_one;
+  s->image[a] = b;
+  s->preimage[b] = a;
+  s->list[s->listed++] = a;
+  return NULL;
+}
+
+static const char *follow(search *s, uint32_t a)
+{
+  uint32_t b = s->image[a];
+  const uint32_t *x = s->before->heap + a, *y = s->after->heap + b;
+  uint32_t total = x[0] >> 16, references = (x[0] & 0xffff) >> 1, i;
+  const char *why;
+  if (total != y[0] >> 16)
+    return "sizes of a pair differ";
+  if (references != (y[0] & 0xffff) >> 1)
+    return "numbers of references of a pair differ";
+  if (memcmp(x + 1 + references, y + 1 + references, (total - 1 - references) * sizeof *x) != 0)
+    return "data words of a pair differ";
+  for (i = 1; i <= references; i++) {
+    why = must_pair(s, x[i], y[i], "a reference is nil on one side only", "a reference is no object", "references break the pairing");
+    if (why != NULL)
+      return why;
+  }
+  if (s->hinted[a / s->before->page] && a != b)
+    return "an object on a hinted page has moved";
+  return NULL;
+}
+
+static const char *search_pairs(search *s)
+{
+  size_t at, i;
+  const char *why;
+  if (s->before->roots_len != s->after->roots_len)
+    return "the number of roots differs";
+  for (at = 0; at < s->before->heap_len; at++)
+    if (s->starts_before[at] && s->hinted[at / s->before->page]) {
+      why = must_pair(s, (uint32_t)at, (uint32_t)at, "nil", "an object on a hinted page is gone", "hinted objects break the pairing");
+      if (why != NULL)
+        return why;
+    }
+  for (i = 0; i < s->before->roots_len; i++) {
+    why = must_pair(s, s->before->roots[i], s->after->roots[i], "a root is nil on one side only", "a root is no object", "roots break the pairing");
+    if (why != NULL)
+      return why;
+  }
+  while (s->followed < s->listed) {
+    why = follow(s, s->list[s->followed++]);
+    if (why != NULL)
+      return why;
+  }
+  for (at = 0; at < s->after->heap_len; at++)
+    if (s->starts_after[at] && s->preimage[at] == 0)
+      return "an object remains that was not reached";
+  return NULL;
+}
+
+/* Pages in use after, the counts, and what else document 01 says of the state that a collection leaves. */
+static const char *pages_and_counts(const search *s, const uint32_t counts[4])
+{
+  const demand3_memory *b = s->before, *a = s->after;
+  uint32_t hinted = 0, unhinted = 0, taken = 0, objects = 0, words = 0;
+  size_t page, at;
+  for (page = 1; page < a->pages; page++) {
+    int copies = 0;
+    hinted += s->hinted[page];
+    unhinted += b->labels[page] != 0 && !s->hinted[page];
+    for (at = page * a->page; at < (page + 1) * a->page; at++)
+      if (s->starts_after[at] && !s->hinted[s->preimage[at] / b->page]) {
+        copies = 1;
+        objects++;
+        words += a->heap[at] >> 16;
+      }
+    if (a->labels[page] != 0 && !s->hinted[page] && !copies)
+      return "a page in use was not hinted and holds no copy";
+    if (a->labels[page] == 0 && s->hinted[page])
+      return "a hinted page was freed";
+    if (a->labels[page] != 0 && s->hinted[page] && copies)
+      return "a copy lies on a hinted page";
+    if (a->labels[page] != 0 && !s->hinted[page] && b->labels[page] != 0)
+      return "a page that was in use was taken for copies";
+    taken += a->labels[page] != 0 && !s->hinted[page];
+  }
+  if (taken > (unhinted == 0 ? 0 : 2 * unhinted - 1))
+    return "more pages were taken than the bound";
+  if (counts[0] != hinted)
+    return "the count of pages hinted is wrong";
+  if (counts[1] != taken)
+    return "the count of pages taken is wrong";
+  if (counts[2] != objects)
+    return "the count of objects copied is wrong";
+  if (counts[3] != words)
+    return "the count of words copied is wrong";
+  if (a->label != 3 - b->label)
+    return "the label has not changed";
+  if (taken == 0 ? a->opened != 0 : a->opened == 0 || s->hinted[a->opened])
+    return "the open page is none that was taken";
+  for (page = 0; page < a->pages; page++)
+    if (a->links[page] != 0)
+      return "a link is not 0";
+  return NULL;
+}
+
+static void *fresh(size_t count, size_t size)
+{
+  void *p = calloc(count + 1, size);
+  if (p == NULL)
+    abort();
+  return p;
+}
+
+const char *demand3_collection(const demand3_memory *before, const demand3_memory *after, const uint32_t *hints, size_t hints_len,
+                               const uint32_t counts[4])
+{
+  search s;
+  size_t i;
+  const char *why = demand3_unsound(before);
+  if (why != NULL)
+    return "the heap before was not sound";
+  why = demand3_unsound(after);
+  if (why != NULL)
+    return why;
+  if (before->page != after->page || before->pages != after->pages)
+    return "page size or pages have changed";
+  s.before = before;
+  s.after = after;
+  s.starts_before = starts_of(before);
+  s.starts_after = starts_of(after);
+  s.hinted = fresh(before->pages, 1);
+  s.image = fresh(before->heap_len, sizeof *s.image);
+  s.preimage = fresh(before->heap_len, sizeof *s.preimage);
+  s.list = fresh(before->heap_len, sizeof *s.list);
+  s.listed = 0;
+  s.followed = 0;
+  for (i = 0; i < hints_len; i++)
+    if (hints[i] >= before->page && hints[i] < before->heap_len && before->labels[hints[i] / before->page] == before->label)
+      s.hinted[hints[i] / before->page] = 1;
+  why = search_pairs(&s);
+  if (why == NULL)
+    why = pages_and_counts(&s, counts);
+  free(s.starts_before);
+  free(s.starts_after);
+  free(s.hinted);
+  free(s.image);
+  free(s.preimage);
+  free(s.list);
+  return why;
+}

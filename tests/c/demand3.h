@@ -1,0 +1,29 @@
+/* demand3.h: what must hold after a call, found by searching memory before and after it. See demand3.c. */
+#ifndef DEMAND3_H
+#define DEMAND3_H
+
+#include <stddef.h>
+#include <stdint.h>
+
+/* Memory at one moment. */
+typedef struct {
+  const uint32_t *heap;
+  size_t heap_len;
+  const uint16_t *labels;
+  size_t labels_len;
+  const uint16_t *links;
+  size_t links_len;
+  const uint32_t *roots;
+  size_t roots_len;
+  uint32_t page, pages, label, opened, fill;
+} demand3_memory;
+
+/* NULL if the heap is sound, else the clause that fails. */
+const char *demand3_unsound(const demand3_memory *m);
+
+/* NULL if an accepted collection that made `after` of `before` is as demand 3 has it, else the clause that fails. The four counts are
+   hinted, taken, objects, words, as the collection answered them. */
+const char *demand3_collection(const demand3_memory *before, const demand3_memory *after, const uint32_t *hints, size_t hints_len,
+                               const uint32_t counts[4]);
+
+#endif
