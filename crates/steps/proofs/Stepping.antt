@@ -1,0 +1,175 @@
+-- Laws of one step: what a call's outcome makes of the session, a start's two refusals, and a part of a buffer that comes back.
+-- Assumes nothing.
+use mathlib.Core.Path.{_≡_, refl, ap, _∙_, sym}
+use mathlib.Core.Logic.{_≢_}
+use mathlib.Core.Bool.{Bool, true, false}
+use mathlib.Core.List.{List, [], _∷_, _++_}
+use Prim.Native.Nat.{ℕ, _*_, _<_, _≤_}
+use native.Mathlib.Omega.{arith}
+use native.Mathlib.Nat.{mul-le-mul-left}
+use lib.ListN.{length, take, drop, set, length-replicate}
+use lib.Seq.{take-at, length-take-le}
+use lib.Dec.{eqb}
+use borrow.Author.Tests.{eq-eqb, ne-eqb, eqb-true, eqb-false, le-leb, lt-leb}
+use types.Run.{OneOf, miss}
+use denote.Enum.Declared.{tagOf}
+use Rattle.rules.specs.declared.Record.{Record}
+use Rattle.rules.specs.Tests.{and-is}
+use Rattle.rules.specs.Pages.{isShape, pageAtStart}
+use Rattle.rules.specs.Ranges.{at}
+use Rattle.rules.specs.Lent.{Lent, isLaidOut, isLaid}
+use Rattle.rules.specs.Calls as calls
+use Rattle.rules.specs.Calls.{Outcome, start, started, allocate, load, store}
+use Rattle.rules.specs.Collect.{CollectOutcome, collect}
+use Rattle.laws.specs.Pages.{shape-says}
+use Rattle.kept.specs.Refusals.{RefusedSame, allocate-refused, load-refused, store-refused, CollectSame, collect-refused}
+use Rattle.steps.specs.declared.entries.Operand.{Operand}
+use Rattle.steps.specs.declared.entries.Step.{Step}
+use Rattle.steps.specs.declared.entries.Step.the-variants.{Start, Allocate, Store, Load, Hint, Clear, Collect, Bad}
+use Rattle.steps.specs.Entries.{isAllowed}
+use Rattle.steps.specs.Session.{Session, Stepped, cells, holding, refused, accepted, called, collected, blank, placed, operandOf, perform, step}
+use Rattle.steps.specs.Code.{isStart}
+use Rattle.steps.proofs.entries.Step.{the-type}
+
+-- ---- a call
+
+abbrev pub answered : Session → Outcome → List ℕ → Stepped
+answered s o roots = record { refusal = o .refusal; value = o .value; session = holding s (o .lent) roots }
+
+pub called-accepted : (s : Session) (o : Outcome) (roots : List ℕ) → o .refusal ≡ 0 → called s o roots ≡ answered s o roots
+unfolding called accepted
+called-accepted s o roots e = simp e
+
+pub called-refused : (s : Session) (o : Outcome) (roots : List ℕ) → o .refusal ≢ 0 → RefusedSame (s .lent) o
+    → called s o roots ≡ answered s o (s .roots)
+unfolding called refused
+called-refused s o roots n same = simp (ne-eqb (o .refusal) 0 n, same n .value, same n .lent)
+
+-- where the root cells stay, one equation says both
+pub called-kept : (s : Session) (o : Outcome) → RefusedSame (s .lent) o → called s o (s .roots) ≡ answered s o (s .roots)
+called-kept s o same = by (eqb (o .refusal) 0) refl
+  where
+    by : (b : Bool) → eqb (o .refusal) 0 ≡ b → called s o (s .roots) ≡ answered s o (s .roots)
+    by true e = called-accepted s o (s .roots) (eqb-true _ 0 e)
+    by false e = called-refused s o (s .roots) (eqb-false _ 0 e) same
+
+-- ---- each operation that calls, from the outcome of its call
+
+pub allocated : (s : Session) (x d p : ℕ) (o : Outcome) → o ≡ allocate (s .lent) d p → o .refusal ≡ 0
+    → answered s o (set (s .roots) x (o .value)) ≡ perform s (Allocate x d p)
+unfolding perform
+allocated s x d p o e z = sym (called-accepted s o _ z) ∙ ap (λ (w : Outcome). placed s x w) e
+
+pub not-allocated : (s : Session) (x d p : ℕ) (o : Outcome) → o ≡ allocate (s .lent) d p → o .refusal ≢ 0
+    → answered s o (s .roots) ≡ perform s (Allocate x d p)
+unfolding perform
+not-allocated s x d p o e n =
+    sym (called-refused s o (set (s .roots) x (o .value)) n (rw e (allocate-refused (s .lent) d p))) ∙ ap (λ (w : Outcome). placed s x w) e
+
+pub stored : (s : Session) (x i : ℕ) (operand : Operand) (o : Outcome)
+    → o ≡ store (s .lent) (at (s .roots) x) i (operandOf (s .roots) operand) → answered s o (s .roots) ≡ perform s (Store x i operand)
+unfolding perform
+stored s x i operand o e =
+    sym (called-kept s o (rw e (store-refused (s .lent) (at (s .roots) x) i (operandOf (s .roots) operand)))) ∙ ap (λ (w : Outcome). called s w (s .roots)) e
+
+pub loaded : (s : Session) (x i : ℕ) (o : Outcome) → o ≡ load (s .lent) (at (s .roots) x) i → answered s o (s .roots) ≡ perform s (Load x i)
+unfolding perform
+loaded s x i o e = sym (called-kept s o (rw e (load-refused (s .lent) (at (s .roots) x) i))) ∙ ap (λ (w : Outcome). called s w (s .roots)) e
+
+abbrev pub gathered : Session → CollectOutcome → Stepped
+gathered s o = record { refusal = o .refusal; value = o .words; session = holding s (o .lent) (o .roots) }
+
+collected-is : (s : Session) (o : CollectOutcome) → (o .refusal ≢ 0 → CollectSame (s .lent) (s .roots) o) → collected s o ≡ gathered s o
+unfolding collected accepted refused
+collected-is s o same = by (eqb (o .refusal) 0) refl
+  where
+    by : (b : Bool) → eqb (o .refusal) 0 ≡ b → collected s o ≡ gathered s o
+    by true e = simp (eqb-true (o .refusal) 0 e)
+    by false e = let k = same (eqb-false (o .refusal) 0 e) in simp (e, k .words, k .lent, k .roots)
+
+pub gathers : (s : Session) (o : CollectOutcome) → o ≡ collect (s .lent) (s .roots) (s .hints) → gathered s o ≡ perform s Collect
+unfolding perform
+gathers s o e = sym (collected-is s o (rw e (collect-refused (s .lent) (s .roots) (s .hints)))) ∙ ap (collected s) e
+
+-- ---- a start
+
+-- memory of the size that P and T ask for
+laid : (m : Lent) (P T : ℕ) → isShape P T ≡ true → length (m .heap) ≡ T * P → length (m .labels) ≡ T → length (m .links) ≡ T
+    → isLaid m P T ≡ true
+unfolding isLaidOut
+laid m P T h a b c = and-is h (and-is (eq-eqb _ _ a) (and-is (eq-eqb _ _ b) (eq-eqb _ _ c)))
+
+blank-laid : (P T : ℕ) (r : Record) → isShape P T ≡ true → isLaid (blank P T r) P T ≡ true
+unfolding blank
+blank-laid P T r h = laid (blank P T r) P T h (length-replicate (T * P) 0) (length-replicate T 0) (length-replicate T 0)
+
+-- an accepted start leaves the same, whatever the memory held
+fresh : (m : Lent) (P T : ℕ) → isLaid m (pageAtStart P) T ≡ true → start m P T ≡ calls.accepted 0 (started m (pageAtStart P) T)
+unfolding start
+fresh m P T h = rw h
+
+shapeless : (m : Lent) (P T : ℕ) → isShape (pageAtStart P) T ≡ false → start m P T ≡ calls.refused 1 m
+unfolding start isLaidOut
+shapeless m P T h = rw h
+
+pub start-refused-1 : (s : Session) (P T : ℕ) → isShape (pageAtStart P) T ≡ false → refused 1 s ≡ perform s (Start P T)
+unfolding perform calls.refused
+start-refused-1 s P T h = rw (shapeless (blank (pageAtStart P) T (s .lent .rec)) P T h)
+
+pub start-refused-9 : (s : Session) (P T : ℕ) → isShape (pageAtStart P) T ≡ true → 8192 < T * pageAtStart P → refused 9 s ≡ perform s (Start P T)
+unfolding perform calls.accepted
+start-refused-9 s P T h l =
+    rw (fresh (blank (pageAtStart P) T (s .lent .rec)) P T (blank-laid (pageAtStart P) T (s .lent .rec) h), lt-leb (T * pageAtStart P) 8192 l)
+
+-- `o` is what the call said of memory m
+pub start-accepted : (s : Session) (P T : ℕ) (m : Lent) (o : Outcome) → o ≡ start m P T → isShape (pageAtStart P) T ≡ true → T * pageAtStart P ≤ 8192
+    → length (m .heap) ≡ T * pageAtStart P → length (m .labels) ≡ T → length (m .links) ≡ T
+    → accepted 0 (record { begun = true; lent = o .lent; roots = cells; hints = cells }) ≡ perform s (Start P T)
+unfolding perform calls.accepted blank
+start-accepted s P T m o e h l a b c =
+    let Q = pageAtStart P in
+    let n = blank Q T (s .lent .rec) in
+    rw (e, fresh m P T (laid m Q T h a b c), fresh n P T (blank-laid Q T (s .lent .rec) h), le-leb (T * Q) 8192 l, a, b, c) (simp length-replicate)
+
+-- the tag of a step that is no start
+pub no-start : (t : Step) → OneOf (1 ∷ 2 ∷ 3 ∷ 4 ∷ 5 ∷ 6 ∷ 7 ∷ []) (tagOf the-type t) → isStart t ≡ false
+no-start (Start P T) k = absurd (miss (1 ∷ 2 ∷ 3 ∷ 4 ∷ 5 ∷ 6 ∷ 7 ∷ []) 0 tt k)
+no-start (Allocate x d p) k = refl
+no-start (Store x i operand) k = refl
+no-start (Load x i) k = refl
+no-start (Hint x y v) k = refl
+no-start (Clear x) k = refl
+no-start Collect k = refl
+no-start Bad k = refl
+
+-- pages of 8 words or more that 8,192 words hold
+pub few-pages : (P T : ℕ) → isShape P T ≡ true → T * P ≤ 8192 → T ≤ 1024
+few-pages P T h l = omega (arith, mul-le-mul-left T (shape-says P T h .page-low))
+
+-- ---- refusal 9, at once or not
+
+pub stops : (s : Session) (t : Step) → isAllowed (s .begun) t ≡ false → refused 9 s ≡ step s t
+unfolding step
+stops s t h = rw h
+
+pub goes : (s : Session) (t : Step) → isAllowed (s .begun) t ≡ true → perform s t ≡ step s t
+unfolding step
+goes s t h = rw h
+
+-- an operation but a start is allowed only after one
+pub has-begun : (b : Bool) (t : Step) → isStart t ≡ false → isAllowed b t ≡ true → b ≡ true
+has-begun true t n h = refl
+has-begun false (Start P T) n h = sym n
+has-begun false (Allocate x d p) n h = h
+has-begun false (Store x i operand) n h = h
+has-begun false (Load x i) n h = h
+has-begun false (Hint x y v) n h = h
+has-begun false (Clear x) n h = h
+has-begun false Collect n h = h
+has-begun false Bad n h = h
+
+-- ---- a part of a buffer
+
+-- what a call left of the first n elements is the first n of what comes back
+pub back : (n : ℕ) (l part : List ℕ) → length part ≡ length (take n l) → n ≤ length l → take n (part ++ drop n l) ≡ part
+back n l part e h = take-at part (drop n l) n (e ∙ length-take-le n l h)

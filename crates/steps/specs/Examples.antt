@@ -1,0 +1,77 @@
+-- The definitions are tried: antt computes document 01's session, from its bytes to the bytes of its output, and the ends of
+-- the input. Everything here is closed, and every proof is refl.
+use mathlib.Core.Path.{_≡_, refl}
+use mathlib.Core.List.{List, [], _∷_}
+use Prim.Native.Nat.{ℕ}
+use lib.ListN.{take}
+use Rattle.rules.specs.Ranges.{from, block, each, has, count, first}
+use Rattle.rules.specs.Header.{headerOf, sizeOf, refsOf, isHeader}
+use Rattle.rules.specs.Pages.{isPageSize, pageAtStart, isShape, pageNamed, pagesNamed, isFree, lowestFree, pagesUsed, pagesUnhinted, pagesNeeded, otherLabel}
+use Rattle.rules.specs.Lent.{isLaidOut, isLabel, isOpen, isValid}
+use Rattle.rules.specs.Walk.{walk, behind, starts, stop, isInUse, isStart, isReference, landing, lookUp}
+use Rattle.rules.specs.Sound.{isBlank, refsGood, isUsedSound, isPageSound, isFillSound, isSound}
+use Rattle.rules.specs.Calls as calls
+use Rattle.rules.specs.Calls.{start, withObject, allocate, load, mayStore, store}
+use Rattle.rules.specs.Collection.{hintPage, hintPages, takePage, withRoom, top, put, copyObject, forward, forwardRoots, sweepReference, sweepReferences, sweepPage, sweepQueue, freedLabels, freedHeap, planOf, begun, afterHints, afterRoots, afterSweep, collection}
+use Rattle.rules.specs.Collect.{unhinted, hasRoom, refusalOfCollect, refusedCollect, acceptedCollect, collect}
+use Rattle.steps.specs.Entries.{nextAt, decode}
+use Rattle.steps.specs.Session.{before, refused, accepted, called, collected, blank, perform, step}
+use Rattle.steps.specs.Run.{digits, number, line, noted, ending, rest, run, transcript}
+
+-- (op, x, y, i, v) of document 01, v as four bytes
+unfoldable input : List ℕ
+input =
+    0 ∷ 0 ∷ 0 ∷ 6 ∷ 8 ∷ 0 ∷ 0 ∷ 0 ∷
+    1 ∷ 0 ∷ 1 ∷ 3 ∷ 0 ∷ 0 ∷ 0 ∷ 0 ∷
+    1 ∷ 2 ∷ 0 ∷ 3 ∷ 0 ∷ 0 ∷ 0 ∷ 0 ∷
+    1 ∷ 1 ∷ 0 ∷ 4 ∷ 0 ∷ 0 ∷ 0 ∷ 0 ∷
+    1 ∷ 3 ∷ 0 ∷ 2 ∷ 0 ∷ 0 ∷ 0 ∷ 0 ∷
+    3 ∷ 2 ∷ 0 ∷ 2 ∷ 77 ∷ 0 ∷ 0 ∷ 0 ∷
+    2 ∷ 0 ∷ 2 ∷ 0 ∷ 0 ∷ 0 ∷ 0 ∷ 0 ∷
+    1 ∷ 4 ∷ 0 ∷ 0 ∷ 0 ∷ 0 ∷ 0 ∷ 0 ∷
+    7 ∷ 0 ∷ 0 ∷ 0 ∷ 0 ∷ 0 ∷ 0 ∷ 0 ∷
+    7 ∷ 0 ∷ 0 ∷ 0 ∷ 0 ∷ 0 ∷ 0 ∷ 0 ∷
+    5 ∷ 0 ∷ 1 ∷ 0 ∷ 2 ∷ 0 ∷ 0 ∷ 0 ∷
+    5 ∷ 1 ∷ 0 ∷ 0 ∷ 255 ∷ 255 ∷ 255 ∷ 255 ∷
+    7 ∷ 0 ∷ 0 ∷ 0 ∷ 0 ∷ 0 ∷ 0 ∷ 0 ∷
+    5 ∷ 1 ∷ 0 ∷ 0 ∷ 0 ∷ 0 ∷ 0 ∷ 0 ∷
+    7 ∷ 0 ∷ 0 ∷ 0 ∷ 0 ∷ 0 ∷ 0 ∷ 0 ∷
+    4 ∷ 2 ∷ 0 ∷ 2 ∷ 0 ∷ 0 ∷ 0 ∷ 0 ∷
+    4 ∷ 0 ∷ 0 ∷ 0 ∷ 0 ∷ 0 ∷ 0 ∷ 0 ∷ []
+
+-- "Whole output", line by line
+unfoldable output : List ℕ
+output =
+    48 ∷ 32 ∷ 48 ∷ 32 ∷ 48 ∷ 10 ∷
+    49 ∷ 32 ∷ 48 ∷ 32 ∷ 56 ∷ 10 ∷
+    50 ∷ 32 ∷ 48 ∷ 32 ∷ 49 ∷ 50 ∷ 10 ∷
+    51 ∷ 32 ∷ 48 ∷ 32 ∷ 49 ∷ 54 ∷ 10 ∷
+    52 ∷ 32 ∷ 48 ∷ 32 ∷ 50 ∷ 49 ∷ 10 ∷
+    53 ∷ 32 ∷ 48 ∷ 32 ∷ 48 ∷ 10 ∷
+    54 ∷ 32 ∷ 48 ∷ 32 ∷ 48 ∷ 10 ∷
+    55 ∷ 32 ∷ 51 ∷ 32 ∷ 48 ∷ 10 ∷
+    56 ∷ 32 ∷ 48 ∷ 32 ∷ 49 ∷ 54 ∷ 10 ∷
+    57 ∷ 32 ∷ 56 ∷ 32 ∷ 48 ∷ 10 ∷
+    49 ∷ 48 ∷ 32 ∷ 48 ∷ 32 ∷ 51 ∷ 52 ∷ 10 ∷
+    49 ∷ 49 ∷ 32 ∷ 48 ∷ 32 ∷ 50 ∷ 51 ∷ 10 ∷
+    49 ∷ 50 ∷ 32 ∷ 56 ∷ 32 ∷ 48 ∷ 10 ∷
+    49 ∷ 51 ∷ 32 ∷ 48 ∷ 32 ∷ 50 ∷ 52 ∷ 10 ∷
+    49 ∷ 52 ∷ 32 ∷ 48 ∷ 32 ∷ 55 ∷ 10 ∷
+    49 ∷ 53 ∷ 32 ∷ 48 ∷ 32 ∷ 55 ∷ 55 ∷ 10 ∷
+    49 ∷ 54 ∷ 32 ∷ 48 ∷ 32 ∷ 56 ∷ 10 ∷
+    101 ∷ 110 ∷ 100 ∷ 32 ∷ 49 ∷ 55 ∷ 32 ∷ 49 ∷ 52 ∷ 32 ∷ 51 ∷ 10 ∷ []
+
+record Examples : Type 0 where
+  document01 : transcript input ≡ output
+  -- "Empty input": `end 0 0 0`
+  empty : transcript [] ≡ 101 ∷ 110 ∷ 100 ∷ 32 ∷ 48 ∷ 32 ∷ 48 ∷ 32 ∷ 48 ∷ 10 ∷ []
+  -- seven bytes: `0 9 0` and `end 1 0 1`
+  seven : transcript (take 7 input) ≡ 48 ∷ 32 ∷ 57 ∷ 32 ∷ 48 ∷ 10 ∷ 101 ∷ 110 ∷ 100 ∷ 32 ∷ 49 ∷ 32 ∷ 48 ∷ 32 ∷ 49 ∷ 10 ∷ []
+
+examples : Examples
+unfolding from block each has count first headerOf sizeOf refsOf isHeader isPageSize pageAtStart isShape pageNamed pagesNamed isFree lowestFree pagesUsed pagesUnhinted pagesNeeded otherLabel isLaidOut isLabel isOpen isValid walk behind starts stop isInUse isStart isReference landing lookUp isBlank refsGood isUsedSound isPageSound isFillSound isSound calls.refused calls.accepted start withObject allocate load mayStore store hintPage hintPages takePage withRoom top put copyObject forward forwardRoots sweepReference sweepReferences sweepPage sweepQueue freedLabels freedHeap planOf begun afterHints afterRoots afterSweep collection unhinted hasRoom refusalOfCollect refusedCollect acceptedCollect collect nextAt decode before refused accepted called collected blank perform step digits number line noted ending rest run transcript input output
+examples = record {
+  document01 = refl;
+  empty = refl;
+  seven = refl;
+}

@@ -1,0 +1,5 @@
+pub mod Entries
+pub mod Session
+pub mod Run
+pub mod Code
+pub mod Examples
