@@ -10,14 +10,15 @@ use lib.Seq.{take-all, length-take-le}
 use lib.Dec.{eqb, leb, ltb}
 use borrow.Author.Tests.{leb-true, leb-false, ltb-true, ltb-false}
 use Rattle.io.specs.Counts.{Counts}
-use Rattle.steps.specs.declared.entries.Entry.{Entry}
-use Rattle.steps.specs.declared.entries.Next.the-variants.{Whole, Partial, Done}
-use Rattle.steps.specs.declared.tally.Tally.{Tally}
-use Rattle.steps.specs.Entries.{entryAt, nextAt, decode}
+use Rattle.entries.specs.declared.Entry.{Entry}
+use Rattle.entries.specs.declared.Next.the-variants.{Whole, Partial, Done}
+use Rattle.lines.specs.declared.tally.Tally.{Tally}
+use Rattle.entries.specs.Entries.{entryAt, nextAt, decode}
 use Rattle.steps.specs.Session.{Session, Stepped, step}
-use Rattle.steps.specs.Run.{line, none, noted, ending, rest, answered, run}
-use Rattle.steps.specs.Code.{put, Put}
-use Rattle.steps.proofs.Decimal.{put-more}
+use Rattle.lines.specs.Lines.{line, none, noted, ending}
+use Rattle.steps.specs.Run.{rest, answered, run}
+use Rattle.lines.specs.Put.{put, Put}
+use Rattle.lines.specs.Put.{put-more}
 
 -- ---- what stands at a place
 

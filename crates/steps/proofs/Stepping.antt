@@ -23,13 +23,13 @@ use Rattle.rules.specs.Calls.{Outcome, start, started, allocate, load, store}
 use Rattle.rules.specs.Collect.{CollectOutcome, collect}
 use Rattle.laws.specs.Pages.{shape-says}
 use Rattle.kept.specs.Refusals.{RefusedSame, allocate-refused, load-refused, store-refused, CollectSame, collect-refused}
-use Rattle.steps.specs.declared.entries.Operand.{Operand}
-use Rattle.steps.specs.declared.entries.Step.{Step}
-use Rattle.steps.specs.declared.entries.Step.the-variants.{Start, Allocate, Store, Load, Hint, Clear, Collect, Bad}
-use Rattle.steps.specs.Entries.{isAllowed}
+use Rattle.entries.specs.declared.Operand.{Operand}
+use Rattle.entries.specs.declared.Step.{Step}
+use Rattle.entries.specs.declared.Step.the-variants.{Start, Allocate, Store, Load, Hint, Clear, Collect, Bad}
+use Rattle.entries.specs.Entries.{isAllowed}
 use Rattle.steps.specs.Session.{Session, Stepped, cells, holding, refused, accepted, called, collected, blank, placed, operandOf, perform, step}
 use Rattle.steps.specs.Code.{isStart}
-use Rattle.steps.proofs.entries.Step.{the-type}
+use Rattle.entries.proofs.Step.{the-type}
 
 -- ---- a call
 

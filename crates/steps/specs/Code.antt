@@ -7,14 +7,11 @@ use lib.ListN.{length, take, drop}
 use Rattle.rules.specs.declared.Record.{Record}
 use Rattle.rules.specs.declared.Answer.{Answer}
 use Rattle.rules.specs.Lent.{lent}
-use Rattle.steps.specs.declared.entries.Step.{Step}
-use Rattle.steps.specs.declared.entries.Step.the-variants.{Start, Allocate, Store, Load, Hint, Clear, Collect, Bad}
-use Rattle.steps.specs.declared.tally.Tally.{Tally}
+use Rattle.entries.specs.declared.Step.{Step}
+use Rattle.entries.specs.declared.Step.the-variants.{Start, Allocate, Store, Load, Hint, Clear, Collect, Bad}
 use Rattle.steps.specs.declared.play.Progress.{Progress}
 use Rattle.steps.specs.declared.play.Reply.{Reply}
 use Rattle.steps.specs.Session.{Session, Stepped}
-
--- ---- one step
 
 -- the session after an accepted start, where exactly this memory is lent; and a call's answer there
 abbrev pub playing : List ℕ → List ℕ → List ℕ → List ℕ → List ℕ → Record → Session
@@ -63,20 +60,3 @@ isStart (Hint x y v) = false
 isStart (Clear x) = false
 isStart Collect = false
 isStart Bad = false
-
--- ---- the tally and the output
-
--- the tally's numbers add up, and there is room for one record more
-pub record Adds (t : Tally) : Type 0 where
-  pub below : t .records < 4294967295
-  pub adds : t .accepted + t .refused ≡ t .records
-
--- a text from place a on, over what stood there
-abbrev pub put : List ℕ → ℕ → List ℕ → List ℕ
-put out a text = take a out ++ text ++ drop (a + length text) out
-
--- a text was put at place a of `out`, which is now `out′`; r is the place behind it, at most `most` further on
-pub record Put (out out′ : List ℕ) (a r : ℕ) (t : List ℕ) (most : ℕ) : Type 0 where
-  pub text : out′ ≡ put out a t
-  pub place : r ≡ a + length t
-  pub near : r ≤ a + most

@@ -14,9 +14,10 @@ use Rattle.rules.specs.Calls as calls
 use Rattle.rules.specs.Calls.{start, withObject, allocate, load, mayStore, store}
 use Rattle.rules.specs.Collection.{hintPage, hintPages, takePage, withRoom, top, put, copyObject, forward, forwardRoots, sweepReference, sweepReferences, sweepPage, sweepQueue, freedLabels, freedHeap, planOf, begun, afterHints, afterRoots, afterSweep, collection}
 use Rattle.rules.specs.Collect.{unhinted, hasRoom, refusalOfCollect, refusedCollect, acceptedCollect, collect}
-use Rattle.steps.specs.Entries.{nextAt, decode}
+use Rattle.entries.specs.Entries.{nextAt, decode}
 use Rattle.steps.specs.Session.{before, refused, accepted, called, collected, blank, perform, step}
-use Rattle.steps.specs.Run.{digits, number, line, noted, ending, rest, run, transcript}
+use Rattle.lines.specs.Lines.{digits, number, line, noted, ending}
+use Rattle.steps.specs.Run.{rest, run, transcript}
 
 -- (op, x, y, i, v) of document 01, v as four bytes
 unfoldable input : List ℕ

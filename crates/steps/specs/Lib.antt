@@ -1,4 +1,3 @@
-pub mod Entries
 pub mod Session
 pub mod Run
 pub mod Code

@@ -10,11 +10,11 @@ use Rattle.rules.specs.Pages.{pageAtStart}
 use Rattle.rules.specs.Lent.{Lent, lent}
 use Rattle.rules.specs.Calls.{Outcome, start, allocate, load, store}
 use Rattle.rules.specs.Collect.{CollectOutcome, collect}
-use Rattle.steps.specs.declared.entries.Operand.{Operand}
-use Rattle.steps.specs.declared.entries.Operand.the-variants.{Root, Number}
-use Rattle.steps.specs.declared.entries.Step.{Step}
-use Rattle.steps.specs.declared.entries.Step.the-variants.{Start, Allocate, Store, Load, Hint, Clear, Collect, Bad}
-use Rattle.steps.specs.Entries.{isAllowed}
+use Rattle.entries.specs.declared.Operand.{Operand}
+use Rattle.entries.specs.declared.Operand.the-variants.{Root, Number}
+use Rattle.entries.specs.declared.Step.{Step}
+use Rattle.entries.specs.declared.Step.the-variants.{Start, Allocate, Store, Load, Hint, Clear, Collect, Bad}
+use Rattle.entries.specs.Entries.{isAllowed}
 
 -- Whether a start was accepted; what is lent, a heap of exactly P·T words and as many labels and links as pages, with the
 -- record; the root cells; the hint words.

@@ -1,22 +1,22 @@
 // The session of document 01, from the bytes of its records to the bytes of its lines. `run` is for users; what it is made of
 // stands in the modules.
 mod cells;
-mod entries;
 mod play;
-mod tally;
-mod text;
 
-use crate::entries::Cursor;
-use crate::entries::Next;
 use crate::play::Progress;
-use crate::tally::Tally;
+use entries::Cursor;
+use entries::Next;
+use lines::tally::Tally;
+use lines::text;
 ghost use mathlib.Core.Path.{_≡_};
 ghost use mathlib.Core.List.{_++_};
 ghost use Prim.Native.Nat.{_≤_, _/_, min};
 ghost use lib.ListN.{length, drop};
 ghost use Rattle.io.specs.Counts.{Counts};
-ghost use Rattle.steps.specs.Run.{none, run, transcript};
-ghost use Rattle.steps.specs.Code.{session, notBegun, Buffers, Put};
+ghost use Rattle.lines.specs.Lines.{none};
+ghost use Rattle.steps.specs.Run.{run, transcript};
+ghost use Rattle.lines.specs.Put.{Put};
+ghost use Rattle.steps.specs.Code.{session, notBegun, Buffers};
 
 // The whole session, on memory of which it does not matter what it holds. A line takes at most 33 bytes, the last one 37.
 fn run_on(

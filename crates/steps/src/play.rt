@@ -1,9 +1,8 @@
 // One step of the session, on its state: heap, labels, links, root cells and hint words, all lent, and the progress, which
 // goes in by value and comes back. A call gets the part of the buffers that the last accepted start asked for.
 use crate::cells;
-use crate::entries;
-use crate::entries::Operand;
-use crate::entries::Step;
+use entries::Operand;
+use entries::Step;
 use layout::pages;
 use layout::tables;
 use rules::Answer;
@@ -12,7 +11,7 @@ ghost use mathlib.Core.Path.{_≡_};
 ghost use mathlib.Core.Bool.{true, false};
 ghost use mathlib.Core.List.{List};
 ghost use Prim.Native.Nat.{ℕ};
-ghost use Rattle.steps.specs.declared.entries.Step.the-variants.{Start, Allocate, Store, Load, Hint, Collect};
+ghost use Rattle.entries.specs.declared.Step.the-variants.{Start, Allocate, Store, Load, Hint, Collect};
 ghost use Rattle.steps.specs.Session.{operandOf, perform, step};
 ghost use Rattle.steps.specs.Code.{playing, replied, session, stepped, notBegun, isStart, Buffers, Within};
 

@@ -7,8 +7,9 @@ use native.Mathlib.Omega.{arith}
 use lib.ListN.{length}
 use lib.Seq.{length-take-le}
 use Rattle.steps.specs.Session.{before}
-use Rattle.steps.specs.Run.{none, run, transcript}
-use Rattle.steps.proofs.Decimal.{put-as}
+use Rattle.lines.specs.Lines.{none}
+use Rattle.steps.specs.Run.{run, transcript}
+use Rattle.lines.specs.Put.{put-as}
 use Rattle.steps.proofs.Running.{first-part, at-start, counts}
 use native.Mathlib.Nat.{zero-add}
 use borrow.Author.Needs.{needs}

@@ -4,13 +4,14 @@ use mathlib.Core.Path.{_≡_, sym, ap, _∙_}
 use Prim.Native.Nat.{_+_, _-_, _/_, _≤_}
 use native.Mathlib.Omega.{arith}
 use lib.ListN.{length}
-use Rattle.steps.specs.declared.entries.Cursor.{Cursor}
-use Rattle.steps.specs.declared.entries.Next.the-variants.{Whole, Partial}
-use Rattle.steps.specs.Entries.{nextAt}
+use Rattle.entries.specs.declared.Cursor.{Cursor}
+use Rattle.entries.specs.declared.Next.the-variants.{Whole, Partial}
+use Rattle.entries.specs.Entries.{nextAt}
 use Rattle.steps.specs.Session.{step}
-use Rattle.steps.specs.Run.{none, ending, run}
+use Rattle.lines.specs.Lines.{none, ending}
+use Rattle.steps.specs.Run.{run}
 use Rattle.steps.specs.Code.{session, notBegun, Buffers, Within}
-use Rattle.steps.proofs.Decimal.{put-then, put-as}
+use Rattle.lines.specs.Put.{put-then, put-as}
 use Rattle.steps.proofs.Running.{Running, is-whole, is-partial, at-partial, at-done, begins}
 use Rattle.steps.proofs.Running as running
 use borrow.Author.Needs.{needs}

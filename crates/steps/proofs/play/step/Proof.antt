@@ -8,7 +8,7 @@ use lib.ListN.{length, take}
 use lib.Seq.{length-take-le}
 use borrow.Author.Tests.{not-true, not-false}
 use Rattle.rules.specs.Lent.{lent}
-use Rattle.steps.specs.Entries.{isAllowed}
+use Rattle.entries.specs.Entries.{isAllowed}
 use Rattle.steps.specs.Session.{Session, refused, perform}
 use Rattle.steps.specs.Code.{session}
 use Rattle.steps.proofs.Stepping.{stops, goes, has-begun, no-start, back}
