@@ -1,18 +1,17 @@
--- A number's decimal text, and texts put one after another into a list. Assumes nothing.
-use mathlib.Core.Path.{_≡_, refl, ap, _∙_, sym}
-use mathlib.Core.List.{List, [], _∷_, _++_, append-assoc}
+-- The digits that `io::decimal` makes are those of the definition, ten or fewer. Assumes nothing.
+use mathlib.Core.Path.{_≡_, refl, ap, _∙_}
+use mathlib.Core.List.{List, [], _∷_, _++_}
 use mathlib.Core.Bool.{Bool, true, false, cond}
 use Prim.Native.Nat.{ℕ, zero, suc, _+_, _-_, _/_, _%_, _^_, _<_, _≤_}
 use native.Mathlib.Omega.{arith}
 use native.Mathlib.Nat.{pow-suc, pow-zero}
-use lib.ListN.{length, take, drop, length-append}
-use lib.Seq.{length-take-le, drop-drop, drop-at, take-at}
+use lib.ListN.{length, take, length-append}
+use lib.Seq.{length-take-le}
 use lib.Dec.{ltb}
 use borrow.Author.Tests.{ltb-true, ltb-false, lt-ltb}
 use Rattle.io.specs.Digits as io
 use Rattle.io.specs.Digits.{Fewest}
-use Rattle.lines.specs.Lines.{digits, number}
-use Rattle.lines.specs.Put.{put, Put}
+use Rattle.lines.specs.Lines.{digits}
 
 -- ---- the fewest digits
 

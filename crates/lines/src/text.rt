@@ -1,10 +1,9 @@
 // Lines in decimal, put one after another into a lent buffer.
 use crate::tally::Tally;
-ghost use mathlib.Core.Path.{_≡_};
 ghost use Prim.Native.Nat.{_+_, _≤_};
 ghost use lib.ListN.{length};
 ghost use Rattle.lines.specs.Lines.{number, line, ending};
-ghost use Rattle.lines.specs.Put.{put, Put};
+ghost use Rattle.lines.specs.Put.{Put};
 
 // Puts the text at place `a`, and answers the place behind it.
 fn put_text(out: &mut [u8], a: usize, text: &[u8]) -> usize

@@ -17,8 +17,7 @@ use Rattle.entries.specs.Entries.{entryAt, nextAt, decode}
 use Rattle.steps.specs.Session.{Session, Stepped, step}
 use Rattle.lines.specs.Lines.{line, none, noted, ending}
 use Rattle.steps.specs.Run.{rest, answered, run}
-use Rattle.lines.specs.Put.{put, Put}
-use Rattle.lines.specs.Put.{put-more}
+use Rattle.lines.specs.Put.{put, Put, put-more}
 
 -- ---- what stands at a place
 

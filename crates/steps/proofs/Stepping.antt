@@ -17,9 +17,10 @@ use Rattle.rules.specs.declared.Record.{Record}
 use Rattle.rules.specs.Tests.{and-is}
 use Rattle.rules.specs.Pages.{isShape, pageAtStart}
 use Rattle.rules.specs.Ranges.{at}
-use Rattle.rules.specs.Lent.{Lent, isLaidOut, isLaid}
+use Rattle.rules.specs.declared.Answer.{Answer}
+use Rattle.rules.specs.Lent.{Lent, lent, isLaidOut, isLaid}
 use Rattle.rules.specs.Calls as calls
-use Rattle.rules.specs.Calls.{Outcome, start, started, allocate, load, store}
+use Rattle.rules.specs.Calls.{Outcome, outcome, start, started, allocate, load, store}
 use Rattle.rules.specs.Collect.{CollectOutcome, collect}
 use Rattle.laws.specs.Pages.{shape-says}
 use Rattle.kept.specs.Refusals.{RefusedSame, allocate-refused, load-refused, store-refused, CollectSame, collect-refused}
@@ -28,7 +29,8 @@ use Rattle.entries.specs.declared.Step.{Step}
 use Rattle.entries.specs.declared.Step.the-variants.{Start, Allocate, Store, Load, Hint, Clear, Collect, Bad}
 use Rattle.entries.specs.Entries.{isAllowed}
 use Rattle.steps.specs.Session.{Session, Stepped, cells, holding, refused, accepted, called, collected, blank, placed, operandOf, perform, step}
-use Rattle.steps.specs.Code.{isStart}
+use Rattle.steps.specs.declared.play.Progress.{Progress}
+use Rattle.steps.specs.Code.{playing, replied, session, stepped, isStart, Buffers, Within}
 use Rattle.entries.proofs.Step.{the-type}
 
 -- ---- a call
@@ -122,7 +124,7 @@ start-refused-9 s P T h l =
     rw (fresh (blank (pageAtStart P) T (s .lent .rec)) P T (blank-laid (pageAtStart P) T (s .lent .rec) h), lt-leb (T * pageAtStart P) 8192 l)
 
 -- `o` is what the call said of memory m
-pub start-accepted : (s : Session) (P T : ℕ) (m : Lent) (o : Outcome) → o ≡ start m P T → isShape (pageAtStart P) T ≡ true → T * pageAtStart P ≤ 8192
+start-accepted : (s : Session) (P T : ℕ) (m : Lent) (o : Outcome) → o ≡ start m P T → isShape (pageAtStart P) T ≡ true → T * pageAtStart P ≤ 8192
     → length (m .heap) ≡ T * pageAtStart P → length (m .labels) ≡ T → length (m .links) ≡ T
     → accepted 0 (record { begun = true; lent = o .lent; roots = cells; hints = cells }) ≡ perform s (Start P T)
 unfolding perform calls.accepted blank
@@ -157,7 +159,7 @@ unfolding step
 goes s t h = rw h
 
 -- an operation but a start is allowed only after one
-pub has-begun : (b : Bool) (t : Step) → isStart t ≡ false → isAllowed b t ≡ true → b ≡ true
+has-begun : (b : Bool) (t : Step) → isStart t ≡ false → isAllowed b t ≡ true → b ≡ true
 has-begun true t n h = refl
 has-begun false (Start P T) n h = sym n
 has-begun false (Allocate x d p) n h = h
@@ -168,8 +170,55 @@ has-begun false (Clear x) n h = h
 has-begun false Collect n h = h
 has-begun false Bad n h = h
 
--- ---- a part of a buffer
+-- so a step on what is lent, after a start, is a step of the session
+goes-on : (b : Bool) (m : Lent) (roots hints : List ℕ) (t : Step) {o : Stepped} → isStart t ≡ false → isAllowed b t ≡ true
+    → o ≡ perform (record { begun = true; lent = m; roots = roots; hints = hints }) t
+    → o ≡ step (record { begun = b; lent = m; roots = roots; hints = hints }) t
+goes-on b m roots hints t n h e =
+    e ∙ ap (λ (x : Bool). perform (record { begun = x; lent = m; roots = roots; hints = hints }) t) (sym (has-begun b t n h))
+    ∙ goes (record { begun = b; lent = m; roots = roots; hints = hints }) t h
+
+-- ---- parts of the buffers
 
 -- what a call left of the first n elements is the first n of what comes back
-pub back : (n : ℕ) (l part : List ℕ) → length part ≡ length (take n l) → n ≤ length l → take n (part ++ drop n l) ≡ part
+back : (n : ℕ) (l part : List ℕ) → length part ≡ length (take n l) → n ≤ length l → take n (part ++ drop n l) ≡ part
 back n l part e h = take-at part (drop n l) n (e ∙ length-take-le n l h)
+
+-- of a call's memory, what it left: as long as what was lent
+pub record Left (h₀ l₀ k₀ h l k : List ℕ) (words pages : ℕ) : Type 0 where
+  pub heap : length h ≡ length (take words h₀)
+  pub labels : length l ≡ length (take pages l₀)
+  pub links : length k ≡ length (take pages k₀)
+
+module _ {heap labels links roots hints : List ℕ} (b : Buffers heap labels links roots hints) (s : Progress) where
+  -- a step that is no start, on the part that is lent
+  pub step-on-part : Within s → (t : Step) → isStart t ≡ false → isAllowed (s .begun) t ≡ true
+      → (a : Answer) (h l k r w : List ℕ) → Left heap labels links h l k (s .words) (s .pages)
+      → replied a h l k r w ≡ perform (playing (take (s .words) heap) (take (s .pages) labels) (take (s .pages) links) roots hints (s .rec)) t
+      → stepped (record { refusal = a .refusal; value = a .value; progress = record { begun = true; words = s .words; pages = s .pages; rec = a .rec } })
+      (h ++ drop (s .words) heap) (l ++ drop (s .pages) labels) (k ++ drop (s .pages) links) r w
+      ≡ step (session heap labels links roots hints s) t
+  step-on-part within t n ok a h l k r w left e =
+      rw (
+        back (s .words) heap h (left .heap) (omega (arith, within .words, b .heap)),
+        back (s .pages) labels l (left .labels) (omega (arith, within .pages, b .labels)),
+        back (s .pages) links k (left .links) (omega (arith, within .pages, b .links)),
+      ) (goes-on (s .begun) (lent (take (s .words) heap) (take (s .pages) labels) (take (s .pages) links) (s .rec)) roots hints t n ok e)
+
+  -- an accepted start, on the part that it asks for; `size` is P as the code has it
+  pub start-on-part : (P T size : ℕ) → size ≡ pageAtStart P → isShape size T ≡ true → T * size ≤ 8192
+      → (a : Answer) (h l k r w : List ℕ) → Left heap labels links h l k (T * size) T → r ≡ cells → w ≡ cells
+      → outcome a h l k ≡ start (lent (take (T * size) heap) (take T labels) (take T links) (s .rec)) P T
+      → stepped (record { refusal = 0; value = 0; progress = record { begun = true; words = T * size; pages = T; rec = a .rec } })
+      (h ++ drop (T * size) heap) (l ++ drop T labels) (k ++ drop T links) r w
+      ≡ perform (session heap labels links roots hints s) (Start P T)
+  unfolding accepted
+  start-on-part P T size z good fits a h l k r w left er ew e =
+      let few : T ≤ 1024 = few-pages size T good fits in
+      let inHeap : T * size ≤ length heap = omega (arith, b .heap) in
+      let inLabels : T ≤ length labels = omega (arith, b .labels) in
+      let inLinks : T ≤ length links = omega (arith, b .links) in
+      let words : T * size ≡ T * pageAtStart P = ap (λ (q : ℕ). T * q) z in
+      rw (back (T * size) heap h (left .heap) inHeap, back T labels l (left .labels) inLabels, back T links k (left .links) inLinks, er, ew)
+      (start-accepted (session heap labels links roots hints s) P T (lent (take (T * size) heap) (take T labels) (take T links) (s .rec)) (outcome a h l k) e
+      (rw z at good) (omega arith) (length-take-le (T * size) heap inHeap ∙ words) (length-take-le T labels inLabels) (length-take-le T links inLinks))

@@ -1,9 +1,9 @@
 -- How the code's state is read as the definitions: what the contracts of this crate are written in beside them.
 use mathlib.Core.Path.{_≡_}
 use mathlib.Core.Bool.{Bool, true, false}
-use mathlib.Core.List.{List, _++_}
-use Prim.Native.Nat.{ℕ, _+_, _<_, _≤_}
-use lib.ListN.{length, take, drop}
+use mathlib.Core.List.{List}
+use Prim.Native.Nat.{ℕ, _≤_}
+use lib.ListN.{length, take}
 use Rattle.rules.specs.declared.Record.{Record}
 use Rattle.rules.specs.declared.Answer.{Answer}
 use Rattle.rules.specs.Lent.{lent}

@@ -1,4 +1,5 @@
 pub mod Session
+pub mod Unchanged
 pub mod Run
 pub mod Code
 pub mod Examples

@@ -4,7 +4,7 @@ use mathlib.Core.Path.{_≡_, sym, ap, _∙_}
 use mathlib.Core.Bool.{true}
 use Prim.Native.Nat.{ℕ, _*_, _≤_}
 use native.Mathlib.Omega.{arith}
-use lib.ListN.{length, take, replicate}
+use lib.ListN.{length, replicate}
 use lib.Seq.{length-take-le}
 use borrow.Author.Tests.{not-true, not-false}
 use Rattle.rules.specs.Pages.{isShape, pageAtStart}
@@ -12,7 +12,7 @@ use Rattle.rules.specs.Lent.{lent}
 use Rattle.laws.specs.Pages.{shape-says, heap-fits}
 use Rattle.steps.specs.Session.{Session, refused, accepted}
 use Rattle.steps.specs.Code.{session}
-use Rattle.steps.proofs.Stepping.{start-refused-1, start-refused-9, start-accepted, few-pages, back}
+use Rattle.steps.proofs.Stepping.{start-refused-1, start-refused-9, few-pages, start-on-part}
 use borrow.Author.Needs.{needs}
 use Rattle.steps.proofs.play.start.Statement.{statement}
 use Rattle.steps.proofs.play.start.Tie as tie
@@ -106,27 +106,13 @@ same-length-5 : tie.Need-same-length-5
 same-length-5 c = search needs
 
 returns-3 : tie.Need-returns-3
-unfolding accepted
 returns-3 c =
     let a = c .before .before .before .before .before .before .before .before .before .before .before .before .before .before .before .before .before .before .before .before .before .before .before .before .before .before .before .before .args in
     let b = c .before .before .before .before .before .before .before .before .before .before .before .before .before .before .before .before .before .before .before .before .before .before .before .before .before .before .before .before .pre .0 in
-    let q = c .before .before .before .before .before .before .before .before .before .before .before .before .before .before .before .before .before .before .before .before .before .before .page-at-start .result in
     let o = c .before .before .before .before .before .before .before .before .before .before .before .before .before .before .before .start in
-    let words : a .pages * q ≤ length (a .heap .now) = omega (arith, c .before .before .before .before .before .before .before .before .before .before .before .before .before .before .before .before .before .before .before .if2 .left, b .heap) in
-    let labels : a .pages ≤ length (a .labels .now) = omega (arith, (few (c .before .before .before .before .before .before .before .before .before .before .before .before .before .before .before .before .before .before .before)), b .labels) in
-    let links : a .pages ≤ length (a .links .now) = omega (arith, (few (c .before .before .before .before .before .before .before .before .before .before .before .before .before .before .before .before .before .before .before)), b .links) in
-    let is = start-accepted (entry (c .before .before .before .before .before .before .before .before .before .before .before .before .before .before .before .before .before .before .before .before .before .before .before .before .before .before .before .before)) (a .page) (a .pages) (lent (take (a .pages * q) (a .heap .now)) (take (a .pages) (a .labels .now)) (take (a .pages) (a .links .now)) (a .s .rec)) _ (o .ensures)
-    (good (c .before .before .before .before .before .before .before .before .before .before .before .before .before .before .before .before .before .before .before .before)) (omega (arith, c .before .before .before .before .before .before .before .before .before .before .before .before .before .before .before .before .before .before .before .if2 .left, (size (c .before .before .before .before .before .before .before .before .before .before .before .before .before .before .before .before .before .before .before .before)))) (length-take-le (a .pages * q) (a .heap .now) words ∙ (size (c .before .before .before .before .before .before .before .before .before .before .before .before .before .before .before .before .before .before .before .before)))
-    (length-take-le (a .pages) (a .labels .now) labels) (length-take-le (a .pages) (a .links .now) links) in (
-      rw (
-        back (a .pages * q) (a .heap .now) (o .last .0) (o .kept .0) words,
-        back (a .pages) (a .labels .now) (o .last .1 .0) (o .kept .1 .0) labels,
-        back (a .pages) (a .links .now) (o .last .1 .1 .0) (o .kept .1 .1 .0) links,
-        c .before .before .before .before .before .before .before .clear32 .ensures ∙ ap (λ (n : ℕ). replicate n 0) (b .roots),
-        c .before .before .before .clear322 .ensures ∙ ap (λ (n : ℕ). replicate n 0) (b .hints),
-      ) is,
-      record { words = omega (arith, c .before .before .before .before .before .before .before .before .before .before .before .before .before .before .before .before .before .before .before .if2 .left); pages = (few (c .before .before .before .before .before .before .before .before .before .before .before .before .before .before .before .before .before .before .before)) },
-    )
+    let roots = c .before .before .before .before .before .before .before .clear32 .ensures ∙ ap (λ (n : ℕ). replicate n 0) (b .roots) in
+    let hints = c .before .before .before .clear322 .ensures ∙ ap (λ (n : ℕ). replicate n 0) (b .hints) in
+    (start-on-part b (a .s) (a .page) (a .pages) (c .before .before .before .before .before .before .before .before .before .before .before .before .before .before .before .before .before .before .before .before .before .before .page-at-start .result) (c .before .before .before .before .before .before .before .before .before .before .before .before .before .before .before .before .before .before .before .before .before .before .page-at-start .ensures) (shape (c .before .before .before .before .before .before .before .before .before .before .before .before .before .before .before .before .before .before .before .before)) (c .before .before .before .before .before .before .before .before .before .before .before .before .before .before .before .before .before .before .before .if2 .left) (o .result) (o .last .0) (o .last .1 .0) (o .last .1 .1 .0) _ _ (record { heap = o .kept .0; labels = o .kept .1 .0; links = o .kept .1 .1 .0 }) roots hints (o .ensures), record { words = c .before .before .before .before .before .before .before .before .before .before .before .before .before .before .before .before .before .before .before .if2 .left; pages = few (c .before .before .before .before .before .before .before .before .before .before .before .before .before .before .before .before .before .before .before) })
 
 pub start-spec : {M : Type 1} → statement M
 start-spec =

@@ -1,17 +1,15 @@
 -- `steps::play::step` meets its contract: refused at once, a start, or a step on the part of the buffers that is lent, which
 -- is the first part of what comes back. Assumes nothing.
 use mathlib.Core.Path.{_≡_, sym, ap, _∙_}
-use mathlib.Core.Bool.{Bool, true}
-use Prim.Native.Nat.{_≤_}
+use mathlib.Core.Bool.{true}
 use native.Mathlib.Omega.{arith}
-use lib.ListN.{length, take}
 use lib.Seq.{length-take-le}
 use borrow.Author.Tests.{not-true, not-false}
 use Rattle.rules.specs.Lent.{lent}
 use Rattle.entries.specs.Entries.{isAllowed}
 use Rattle.steps.specs.Session.{Session, refused, perform}
 use Rattle.steps.specs.Code.{session}
-use Rattle.steps.proofs.Stepping.{stops, goes, has-begun, no-start, back}
+use Rattle.steps.proofs.Stepping.{stops, goes, no-start, step-on-part}
 use borrow.Author.Needs.{needs}
 use Rattle.steps.proofs.play.step.Statement.{statement}
 use Rattle.steps.proofs.play.step.Tie as tie
@@ -94,22 +92,8 @@ same-length-10 c = search needs
 
 returns-3 : tie.Need-returns-3
 returns-3 c =
-    let a = c .before .before .before .before .before .before .before .before .before .before .before .before .before .before .before .before .before .before .before .before .before .before .before .before .before .before .args in
     let o = c .before .before .before .before .before .before .before .before .before .before .before .perform in
-    let heap : a .s .words ≤ length (a .heap .now) = omega (arith, c .before .before .before .before .before .before .before .before .before .before .before .before .before .before .before .before .before .before .before .before .before .before .before .before .before .before .pre .0 .heap, c .before .before .before .before .before .before .before .before .before .before .before .before .before .before .before .before .before .before .before .before .before .before .before .before .before .before .pre .1 .words) in
-    let labels : a .s .pages ≤ length (a .labels .now) = omega (arith, c .before .before .before .before .before .before .before .before .before .before .before .before .before .before .before .before .before .before .before .before .before .before .before .before .before .before .pre .0 .labels, c .before .before .before .before .before .before .before .before .before .before .before .before .before .before .before .before .before .before .before .before .before .before .before .before .before .before .pre .1 .pages) in
-    let links : a .s .pages ≤ length (a .links .now) = omega (arith, c .before .before .before .before .before .before .before .before .before .before .before .before .before .before .before .before .before .before .before .before .before .before .before .before .before .before .pre .0 .links, c .before .before .before .before .before .before .before .before .before .before .before .before .before .before .before .before .before .before .before .before .before .before .before .before .before .before .pre .1 .pages) in
-    let begun = has-begun (a .s .begun) (a .asked) (no-start (c .before .before .before .before .before .before .before .before .before .before .before .before .before .before .before .before .before .before .before .before .before .before .before .before .before .before .args .asked) (c .before .before .before .before .before .before .before .before .before .before .before .before .before .before .before .before .before .before .match .keys2)) (allowed (c .before .before .before .before .before .before .before .before .before .before .before .before .before .before .before .before .before .before .before)) in
-    let m = lent (take (a .s .words) (a .heap .now)) (take (a .s .pages) (a .labels .now)) (take (a .s .pages) (a .links .now)) (a .s .rec) in (
-      rw (
-        back (a .s .words) (a .heap .now) (o .last .0) (o .kept .0) heap,
-        back (a .s .pages) (a .labels .now) (o .last .1 .0) (o .kept .1 .0) labels,
-        back (a .s .pages) (a .links .now) (o .last .1 .1 .0) (o .kept .1 .1 .0) links,
-      ) (o .ensures
-          ∙ ap (λ (b : Bool). perform (record { begun = b; lent = m; roots = a .roots .now; hints = a .hints .now }) (a .asked)) (sym begun)
-          ∙ goes (entry (c .before .before .before .before .before .before .before .before .before .before .before .before .before .before .before .before .before .before .before .before .before .before .before .before .before .before)) (a .asked) (allowed (c .before .before .before .before .before .before .before .before .before .before .before .before .before .before .before .before .before .before .before))),
-      record { words = c .before .before .before .before .before .before .before .before .before .before .before .before .before .before .before .before .before .before .before .before .before .before .before .before .before .before .pre .1 .words; pages = c .before .before .before .before .before .before .before .before .before .before .before .before .before .before .before .before .before .before .before .before .before .before .before .before .before .before .pre .1 .pages },
-    )
+    (step-on-part (c .before .before .before .before .before .before .before .before .before .before .before .before .before .before .before .before .before .before .before .before .before .before .before .before .before .before .pre .0) (c .before .before .before .before .before .before .before .before .before .before .before .before .before .before .before .before .before .before .before .before .before .before .before .before .before .before .args .s) (c .before .before .before .before .before .before .before .before .before .before .before .before .before .before .before .before .before .before .before .before .before .before .before .before .before .before .pre .1) (c .before .before .before .before .before .before .before .before .before .before .before .before .before .before .before .before .before .before .before .before .before .before .before .before .before .before .args .asked) (no-start (c .before .before .before .before .before .before .before .before .before .before .before .before .before .before .before .before .before .before .before .before .before .before .before .before .before .before .args .asked) (c .before .before .before .before .before .before .before .before .before .before .before .before .before .before .before .before .before .before .match .keys2)) (allowed (c .before .before .before .before .before .before .before .before .before .before .before .before .before .before .before .before .before .before .before)) (o .result) (o .last .0) (o .last .1 .0) (o .last .1 .1 .0) (o .last .1 .1 .1 .0) (o .last .1 .1 .1 .1 .0) (record { heap = o .kept .0; labels = o .kept .1 .0; links = o .kept .1 .1 .0 }) (o .ensures), record { words = c .before .before .before .before .before .before .before .before .before .before .before .before .before .before .before .before .before .before .before .before .before .before .before .before .before .before .pre .1 .words; pages = c .before .before .before .before .before .before .before .before .before .before .before .before .before .before .before .before .before .before .before .before .before .before .before .before .before .before .pre .1 .pages })
 
 pub step-spec : {M : Type 1} → statement M
 step-spec =
