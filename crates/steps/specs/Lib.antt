@@ -1,5 +1,6 @@
 pub mod Session
 pub mod Unchanged
+pub mod Soundness
 pub mod Run
 pub mod Code
 pub mod Examples

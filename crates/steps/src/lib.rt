@@ -58,13 +58,14 @@ fn run_on(
     }
 }
 
-// The session's memory. What it holds does not matter, so the contracts tell lengths alone.
+// The session's heap. What it holds does not matter, so the contract tells the length alone.
 fn words() -> [u32; 8192]
     ensures { λ r. ⌜ 8192 ≡ length r ⌝ }
 {
     [0; 8192]
 }
 
+// The same for labels and links.
 fn marks() -> [u16; 1024]
     ensures { λ r. ⌜ 1024 ≡ length r ⌝ }
 {

@@ -153,6 +153,7 @@ fn collect(
     }
 }
 
+// Refusal 9, with the record as it was.
 fn bad(r: Record) -> Answer
     ensures { λ a. ⌜ a ≡ record { refusal = 9; value = 0; rec = r } ⌝ }
 {
@@ -195,6 +196,7 @@ fn perform(
     }
 }
 
+// A refused record's reply: its number, value 0, and the progress as it was.
 fn refused(refusal: u32, s: Progress) -> Reply
     ensures { λ x. ⌜ x ≡ record { refusal = refusal; value = 0; progress = s } ⌝ }
 {
