@@ -3,6 +3,7 @@
 use crate::object;
 use layout::header;
 use layout::record;
+use layout::tables;
 use layout::walk;
 use rules::Record;
 ghost use mathlib.Core.Path.{_≡_};
@@ -15,13 +16,14 @@ ghost use Rattle.rules.specs.Lent.{lent};
 ghost use Rattle.rules.specs.Walk.{isReference};
 ghost use Rattle.rules.specs.Sound.{isBlank, isUsedSound, isPageSound, isSound};
 
-// Only zeros from address a up to e.
+// Only zeros from address a up to e. Words past the heap count as zeros.
 fn is_blank(heap: &[u32], a: usize, e: usize) -> bool
     ensures { λ x. ⌜ x ≡ isBlank (now (heap .entry)) a e ⌝ }
 {
+    let end = tables::smaller(e, heap.len());
     let mut i = a;
-    while i < e {
-        if object::word_at(heap, i) != 0 {
+    while i < end {
+        if heap[i] != 0 {
             return false;
         }
         i += 1;
@@ -29,13 +31,14 @@ fn is_blank(heap: &[u32], a: usize, e: usize) -> bool
     true
 }
 
-// Only references from address a up to e.
+// Only references from address a up to e. A zero, as past the heap, is one.
 fn are_references(heap: &[u32], labels: &[u16], r: Record, a: usize, e: usize) -> bool
     ensures { λ x. ⌜ ((links : List ℕ) → x ≡ each (λ w. isReference (lent (now (heap .entry)) (now (labels .entry)) links r) (at (now (heap .entry)) w)) (block a e)) ⌝ }
 {
+    let end = tables::smaller(e, heap.len());
     let mut i = a;
-    while i < e {
-        if !walk::is_reference(heap, labels, r, object::word_at(heap, i)) {
+    while i < end {
+        if !walk::is_reference(heap, labels, r, heap[i]) {
             return false;
         }
         i += 1;
@@ -55,8 +58,7 @@ fn is_fill_sound(r: Record, g: u32, base: usize, stop: usize) -> bool
 }
 
 // A page with a label that is not 0: it is the current one, the walk meets an object, every reference of an object is good,
-// the walk
-// stops where it should, and only zeros stand from there on.
+// the walk stops where it should, and only zeros stand from there on.
 fn is_used_sound(heap: &[u32], labels: &[u16], r: Record, g: u32) -> bool
     ensures { λ x. ⌜ ((links : List ℕ) → x ≡ isUsedSound (lent (now (heap .entry)) (now (labels .entry)) links r) g) ⌝ }
 {

@@ -1,18 +1,18 @@
 -- How many pages of a block pass a test, and the lowest free one: it is found where some page is free, and taking it leaves
 -- one less.
 use mathlib.Core.Path.{_≡_, refl, sym, ap, _∙_}
-use mathlib.Core.Logic.{_≢_}
+use mathlib.Core.Logic.{_≢_, _⊎_, inl, inr}
 use mathlib.Core.Bool.{Bool, true, false, cond, not}
 use mathlib.Core.List.{List, [], _∷_}
 use Prim.Native.Nat.{ℕ, zero, suc, _+_, _-_, _≤_, _<_}
 use native.Mathlib.Decide.{ℕ-discrete}
 use native.Mathlib.Omega.{arith}
-use lib.ListN.{length, set}
+use lib.ListN.{length, set, List·getD-eq-default}
 use lib.Seq.{getD-set-same, getD-set-other}
 use lib.Dec.{eqb}
 use borrow.Author.Tests.{eqb-true, eq-eqb, ne-eqb}
 use Rattle.rules.specs.Ranges.{at, from, block, count, first}
-use Rattle.laws.specs.Lists.{count-past, count-yes, count-no, first-past, first-here, first-step}
+use Rattle.laws.specs.Lists.{count-past, count-none, count-yes, count-no, first-past, first-here, first-step}
 use Rattle.rules.specs.Pages.{isFree, lowestFree, pagesUsed}
 
 -- ---- counting in a range
@@ -127,10 +127,15 @@ free-same labels before lo hi h = count-same (isFree before) (isFree labels) h (
 
 -- ---- as a loop over the labels meets them
 
+-- past the labels every page is free
+pub free-past : (labels : List ℕ) (g : ℕ) → length labels ≤ g → isFree labels g ≡ true
+free-past labels g p = free-is labels g (List·getD-eq-default labels 0 p)
+
 module _ (labels : List ℕ) (g hi : ℕ) where
-  pub used-past : hi ≤ g → pagesUsed labels g hi ≡ 0
+  pub used-past : (hi ≤ g) ⊎ (length labels ≤ g) → pagesUsed labels g hi ≡ 0
   unfolding pagesUsed
-  used-past p = count-past (λ g. not (isFree labels g)) g hi p
+  used-past (inl p) = count-past (λ g. not (isFree labels g)) g hi p
+  used-past (inr p) = count-none (λ g. not (isFree labels g)) g hi (λ x lo h. rw (free-past labels x (omega arith)))
 
   pub used-more : g < hi → at labels g ≢ 0 → pagesUsed labels g hi ≡ 1 + pagesUsed labels (g + 1) hi
   unfolding pagesUsed isFree
@@ -147,6 +152,10 @@ module _ (labels : List ℕ) (g hi : ℕ) where
   pub lowest-here : g < hi → at labels g ≡ 0 → lowestFree labels g hi ≡ g
   unfolding lowestFree isFree
   lowest-here p q = first-here (isFree labels) g hi hi p (eq-eqb (at labels g) 0 q)
+
+  pub lowest-unlabelled : g < hi → (hi ≤ g) ⊎ (length labels ≤ g) → lowestFree labels g hi ≡ g
+  lowest-unlabelled p (inl q) = absurd (omega arith)
+  lowest-unlabelled p (inr q) = lowest-here p (List·getD-eq-default labels 0 q)
 
   pub lowest-step : g < hi → at labels g ≢ 0 → lowestFree labels g hi ≡ lowestFree labels (g + 1) hi
   unfolding lowestFree isFree

@@ -34,6 +34,18 @@ header-is w room h =
     (and-is (le-leb 1 (sizeOf w) (omega (arith, h .shape)))
     (and-is (le-leb (refsOf w) (sizeOf w - 1) (omega (arith, h .shape))) (le-leb _ _ (h .fits))))
 
+-- the test by its parts: whether p < n, and, of an odd word where it is so, whether n words fit
+pub header-bare : (w room : ℕ) → sizeOf w ≤ refsOf w → isHeader w room ≡ false
+header-bare w room s = go (isHeader w room) refl
+  where
+    go : (b : Bool) → isHeader w room ≡ b → b ≡ false
+    go false e = refl
+    go true e = let h = header-says w room e in absurd (omega (arith, h .shape))
+
+pub header-room : (w room : ℕ) → w % 2 ≡ 1 → refsOf w < sizeOf w → isHeader w room ≡ leb (sizeOf w) room
+unfolding isHeader
+header-room w room o s = rw (eq-eqb _ _ o, le-leb 1 (sizeOf w) (omega arith), le-leb (refsOf w) (sizeOf w - 1) (omega arith))
+
 -- with no room left no word is a header
 pub header-full : (w : ℕ) → isHeader w 0 ≡ false
 header-full w = go (isHeader w 0) refl

@@ -23,6 +23,11 @@ pub block-step : (i hi : ℕ) → i < hi → block i hi ≡ i ∷ block (i + 1) 
 unfolding block from
 block-step i hi p = let z : hi - i ≡ suc (hi - (i + 1)) = omega arith in rw (z, add-one i)
 
+-- past the smaller of two ends is past one of them
+pub past-one : {a b r : ℕ} → (a ≤ r) ⊎ (b ≤ r) → {x : ℕ} → r ≤ x → (a ≤ x) ⊎ (b ≤ x)
+past-one (inl h) p = inl (omega arith)
+past-one (inr h) p = inr (omega arith)
+
 from-mem : (n lo x : ℕ) → lo ≤ x → x < lo + n → List·Memᴰ x (from lo n)
 unfolding from
 from-mem zero lo x a b = absurd (omega arith)
@@ -133,6 +138,14 @@ module _ (f : ℕ → Bool) (i hi : ℕ) where
   pub first-step : (e : ℕ) → i < hi → f i ≡ false → first f (block i hi) e ≡ first f (block (i + 1) hi) e
   unfolding first
   first-step e p q = rw (block-step i hi p, q)
+
+pub count-none : (f : ℕ → Bool) (lo hi : ℕ) → ((x : ℕ) → lo ≤ x → x < hi → f x ≡ false) → count f (block lo hi) ≡ 0
+unfolding count
+count-none f lo hi h = none (block lo hi) (λ x k. let q = mem-block lo hi x k in h x (q .0) (q .1))
+  where
+    none : (xs : List ℕ) → ((x : ℕ) → List·Memᴰ x xs → f x ≡ false) → count f xs ≡ 0
+    none [] h = refl
+    none (y ∷ xs) h = rw (h y (List·Memᴰ·head refl)) (omega (arith, none xs (λ x k. h x (List·Memᴰ·tail k))))
 
 pub count-le : (f : ℕ → Bool) (xs : List ℕ) → count f xs ≤ length xs
 unfolding count

@@ -33,6 +33,15 @@ pub blank-is : (h : List ℕ) (a e : ℕ) → ((w : ℕ) → a ≤ w → w < e �
 unfolding isBlank
 blank-is h a e f = block-each (λ w. eqb (at h w) 0) a e (λ w lo hi. eq-eqb _ _ (f w lo hi))
 
+-- past the heap only zeros stand, which are references
+pub blank-past : (h : List ℕ) (a e : ℕ) → (e ≤ a) ⊎ (length h ≤ a) → isBlank h a e ≡ true
+blank-past h a e (inl p) = blank-is h a e (λ w lo hi. absurd (omega arith))
+blank-past h a e (inr p) = blank-is h a e (λ w lo hi. List·getD-eq-default h 0 (omega arith))
+
+pub references-past : (m : Lent) (a e : ℕ) → (e ≤ a) ⊎ (length (m .heap) ≤ a) → each (λ w. isReference m (at (m .heap) w)) (block a e) ≡ true
+references-past m a e (inl p) = block-each (λ w. isReference m (at (m .heap) w)) a e (λ w lo hi. absurd (omega arith))
+references-past m a e (inr p) = block-each (λ w. isReference m (at (m .heap) w)) a e (λ w lo hi. reference-is m _ (inl (List·getD-eq-default (m .heap) 0 (omega arith))))
+
 module _ (m : Lent) (x : ℕ) where
   good-says : refsGood m x ≡ true → (i : ℕ) → i < refs m x → (payload m x i ≡ 0) ⊎ IsObject m (payload m x i)
   unfolding refsGood

@@ -32,10 +32,8 @@ pub fn is_header(w: u32, room: usize) -> bool
         return false;
     }
     let n = size_of(w);
-    if n < 1 {
-        return false;
-    }
-    if n - 1 < refs_of(w) {
+    // That p is below n says both that n is at least 1 and that p is at most n - 1.
+    if n <= refs_of(w) {
         return false;
     }
     n <= room

@@ -13,7 +13,9 @@ use borrow.Author.Tests.{eq-eqb, ne-eqb}
 use Rattle.rules.specs.Ranges.{at, block, has, count}
 use Rattle.rules.specs.Pages.{pageNamed, pagesNamed, isFree, pagesUnhinted}
 use Rattle.phases.specs.Code.{unmarked}
-use Rattle.laws.specs.Lists.{count-past, count-yes, count-no}
+use Rattle.laws.specs.Lists.{count-past, count-none, count-yes, count-no}
+use Rattle.laws.specs.FreePages.{free-past}
+use mathlib.Core.Logic.{_⊎_, inl, inr}
 
 -- ---- the marks, in tail form: with the words from the i-th on they say what they said at first with all
 
@@ -47,8 +49,13 @@ module _ (f : ℕ → Bool) (hi : ℕ) where
   pub counted-no : (n g all : ℕ) → g < hi → f g ≡ false → n + count f (block g hi) ≡ all → n + count f (block (g + 1) hi) ≡ all
   counted-no n g all p y e = omega (arith, count-no f g hi p y)
 
-  pub counted-end : (n g all : ℕ) → hi ≤ g → n + count f (block g hi) ≡ all → n ≡ all
-  counted-end n g all p e = omega (arith, count-past f g hi p)
+  pub counted-end : (n g all : ℕ) → count f (block g hi) ≡ 0 → n + count f (block g hi) ≡ all → n ≡ all
+  counted-end n g all p e = omega arith
+
+-- none is left at the end, or past the labels, where every page is free
+pub unmarked-past : (labels : List ℕ) (marks : List Bool) (g hi : ℕ) → (hi ≤ g) ⊎ (length labels ≤ g) → count (unmarked labels marks) (block g hi) ≡ 0
+unmarked-past labels marks g hi (inl p) = count-past (unmarked labels marks) g hi p
+unmarked-past labels marks g hi (inr p) = count-none (unmarked labels marks) g hi (λ x lo h. rw (free-past labels x (omega arith)))
 
 -- tests that agree on a block count the same
 count-same : (f f′ : ℕ → Bool) (hi n lo : ℕ) → hi ≤ lo + n → ((g : ℕ) → g < hi → f g ≡ f′ g) → count f (block lo hi) ≡ count f′ (block lo hi)

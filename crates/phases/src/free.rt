@@ -1,6 +1,5 @@
 // Step 4: pages still with the old label are zeroed and become free.
 use crate::Shape;
-use layout::record;
 ghost use mathlib.Core.Path.{_≡_};
 ghost use mathlib.Core.Bool.{cond};
 ghost use Prim.Native.Nat.{_+_, _*_, _≤_, _<_};
@@ -22,6 +21,13 @@ pub fn zero_words(heap: &mut [u32], a: usize, n: usize)
     }
 }
 
+// A label as wide as in a record.
+fn label_of(label: u16) -> u32
+    ensures { λ r. ⌜ r ≡ label ⌝ }
+{
+    label as u32
+}
+
 // One page.
 pub fn free_page(heap: &mut [u32], labels: &mut [u16], k: Shape, g: usize)
     requires { ⌜ (length (now heap) ≡ k .pages * k .page) × (length (now labels) ≡ k .pages) ⌝ }
@@ -29,7 +35,7 @@ pub fn free_page(heap: &mut [u32], labels: &mut [u16], k: Shape, g: usize)
     ensures { λ _. ⌜ now (heap .exit) ≡ cond (eqb (at (now (labels .entry)) g) (k .old)) (sets (now (heap .entry)) (g * k .page) (replicate (k .page) 0)) (now (heap .entry)) ⌝ }
     ensures { λ _. ⌜ now (labels .exit) ≡ cond (eqb (at (now (labels .entry)) g) (k .old)) (set (now (labels .entry)) g 0) (now (labels .entry)) ⌝ }
 {
-    if record::label_at(labels, g) != k.old {
+    if label_of(labels[g]) != k.old {
         return;
     }
     let page = k.page as usize;

@@ -2,6 +2,7 @@
 // the named pages first keeps the work linear in hints and pages.
 use layout::pages;
 use layout::record;
+use layout::tables;
 ghost use mathlib.Core.Path.{_≡_};
 ghost use mathlib.Core.Bool.{false, _||_};
 ghost use Prim.Native.Nat.{ℕ, _≤_, _<_};
@@ -34,15 +35,16 @@ fn is_unmarked(labels: &[u16], marks: &[bool; 4096], g: usize) -> bool
     !marks[g]
 }
 
-// How many pages are in use and not marked.
+// How many pages are in use and not marked. Those past the labels are free.
 fn count_unmarked(labels: &[u16], marks: &[bool; 4096], pages: u32) -> u32
     requires { ⌜ pages ≤ 4096 ⌝ }
     ensures { λ r. ⌜ (r ≡ count (unmarked (now (labels .entry)) (now (marks .entry))) (block 1 pages)) × (r ≤ 4095) ⌝ }
 {
+    let end = tables::smaller(pages as usize, labels.len());
     let mut n = 0;
-    let mut g: u32 = 1;
-    while g < pages {
-        if is_unmarked(labels, marks, g as usize) {
+    let mut g: usize = 1;
+    while g < end {
+        if is_unmarked(labels, marks, g) {
             n += 1;
         }
         g += 1;

@@ -13,15 +13,9 @@ use Rattle.phases.proofs.free.free_page.Tie as tie
 inside : (c : tie.Start) → c .args .g * c .args .k .page + c .args .k .page ≤ length (c .args .heap .now)
 inside c = omega (arith, c .pre .0 .0, page-end (c .args .g) (c .args .k .page) (c .args .k .pages) (c .pre .1))
 
-label-at-requires : tie.Need-label-at-requires
-label-at-requires c κs = search needs
-
-same-length : tie.Need-same-length
-same-length c = search needs
-
 returns : tie.Need-returns
 returns c =
-    let e = ne-eqb _ _ (λ e. c .if1 .taken (c .before .before .label-at .ensures ∙ e)) in
+    let e = ne-eqb _ _ (λ e. c .if1 .taken (c .before .before .label-of .ensures ∙ e)) in
     (rw e, rw e)
 
 cast-page : tie.Need-cast-page
@@ -39,29 +33,26 @@ mul-labels c = search needs
 slice-write-labels : tie.Need-slice-write-labels
 slice-write-labels c = search needs
 
+same-length : tie.Need-same-length
+same-length c = search needs
+
 same-length-2 : tie.Need-same-length-2
 same-length-2 c = search needs
 
-same-length-3 : tie.Need-same-length-3
-same-length-3 c = search needs
-
 returns-2 : tie.Need-returns-2
 returns-2 c =
-    let e = eq-eqb _ _ (sym (c .before .before .before .before .before .before .before .label-at .ensures) ∙ c .before .before .before .before .before .if1 .left) in
+    let e = eq-eqb _ _ (sym (c .before .before .before .before .before .before .before .label-of .ensures) ∙ c .before .before .before .before .before .if1 .left) in
     (rw e (c .before .before .zero-words .ensures), rw e)
+
+mul-label-of : tie.Need-mul-label-of
+mul-label-of c = search needs
+
+slice-read-label-of : tie.Need-slice-read-label-of
+slice-read-label-of c = search needs
+
+label-of-requires : tie.Need-label-of-requires
+label-of-requires c κs = search needs
 
 pub free-page-spec : {M : Type 1} → statement M
 free-page-spec =
-    tie.close
-    (tie.spec
-    label-at-requires
-    same-length
-    returns
-    cast-page
-    mul-zero-words
-    zero-words-requires
-    mul-labels
-    slice-write-labels
-    same-length-2
-    same-length-3
-    returns-2)
+    tie.close (tie.spec mul-label-of slice-read-label-of label-of-requires returns cast-page mul-zero-words zero-words-requires mul-labels slice-write-labels same-length same-length-2 returns-2)
