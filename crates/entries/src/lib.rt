@@ -1,5 +1,7 @@
 // Records of 8 bytes, read one at a time from a lent buffer, and the step that each asks for. They are called entries:
 // `Record` is the control record.
+pub mod reader;
+
 ghost use mathlib.Core.Path.{_≡_};
 ghost use mathlib.Core.List.{[], _∷_};
 ghost use Prim.Native.Nat.{_+_, _<_, _≤_};
@@ -63,16 +65,10 @@ pub struct Cursor {
 }
 
 impl Cursor {
-    pub fn new() -> Self
-        ensures { λ r. ⌜ r ≡ record { at = 0 } ⌝ }
-    {
-        Cursor { at: 0 }
-    }
-
     // The place one entry on.
     pub fn after(self) -> Self
         requires { ⌜ self .at ≤ 64000 ⌝ }
-        ensures { λ r. ⌜ r ≡ record { at = self .at + 8 } ⌝ }
+        ensures { λ r. ⌜ r .at ≡ self .at + 8 ⌝ }
     {
         Cursor { at: self.at + 8 }
     }

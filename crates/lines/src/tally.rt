@@ -1,4 +1,5 @@
-// The running tally.
+// The running tally: by value, and lent. What is proved by hand is thin: `note` replaces what it is lent by what `noted`
+// gives, and `tallied` lends a local to `note`. Those who call `tallied` need no such proof.
 ghost use mathlib.Core.Path.{_≡_};
 ghost use Rattle.lines.specs.Lines.{none, noted};
 ghost use Rattle.lines.specs.Put.{Adds};
@@ -22,7 +23,7 @@ impl Tally {
     }
 
     // One record more, accepted or refused.
-    pub fn note(mut self, refusal: u32) -> Self
+    pub fn noted(mut self, refusal: u32) -> Self
         requires { ⌜ Adds self ⌝ }
         ensures { λ r. ⌜ r ≡ noted self refusal ⌝ }
     {
@@ -34,4 +35,22 @@ impl Tally {
         }
         self
     }
+}
+
+// The same, of a tally that is lent.
+pub fn note(t: &mut Tally, refusal: u32)
+    requires { ⌜ Adds (now t) ⌝ }
+    ensures { λ _. ⌜ now (t .exit) ≡ noted (now (t .entry)) refusal ⌝ }
+{
+    *t = (*t).noted(refusal);
+}
+
+// By value again, through the tally lent.
+pub fn tallied(t: Tally, refusal: u32) -> Tally
+    requires { ⌜ Adds t ⌝ }
+    ensures { λ r. ⌜ r ≡ noted t refusal ⌝ }
+{
+    let mut running = t;
+    note(&mut running, refusal);
+    running
 }

@@ -4,8 +4,9 @@ mod cells;
 mod play;
 
 use crate::play::Progress;
-use entries::Cursor;
 use entries::Next;
+use entries::reader;
+use lines::tally;
 use lines::tally::Tally;
 use lines::text;
 ghost use mathlib.Core.Path.{_≡_};
@@ -34,22 +35,23 @@ fn run_on(
 {
     let mut s = Progress::new();
     let mut tally = Tally::new();
-    let mut c = Cursor::new();
+    let mut at: usize = 0;
     let mut place: usize = 0;
     loop {
-        let next = c.next(input);
+        let reading = reader::read(input, at);
+        let next = reading.next;
         match next {
             Next::Whole(e) => {
                 let reply = play::step(heap, labels, links, roots, hints, s, entries::decode(e));
                 place = text::put_line(out, place, tally.records, reply.refusal, reply.value);
-                tally = tally.note(reply.refusal);
+                tally = tally::tallied(tally, reply.refusal);
                 let after = reply.progress;
                 s = after;
-                c = c.after();
+                at = reading.at;
             }
             Next::Partial => {
                 place = text::put_line(out, place, tally.records, 9, 0);
-                return text::put_ending(out, place, tally.note(9));
+                return text::put_ending(out, place, tally::tallied(tally, 9));
             }
             Next::Done => {
                 return text::put_ending(out, place, tally);
