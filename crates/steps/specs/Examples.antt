@@ -14,7 +14,7 @@ use Rattle.rules.specs.Calls as calls
 use Rattle.rules.specs.Calls.{start, withObject, allocate, load, mayStore, store}
 use Rattle.rules.specs.Collection.{hintPage, hintPages, takePage, withRoom, top, put, copyObject, forward, forwardRoots, sweepReference, sweepReferences, sweepPage, sweepQueue, freedLabels, freedHeap, planOf, begun, afterHints, afterRoots, afterSweep, collection}
 use Rattle.rules.specs.Collect.{unhinted, hasRoom, refusalOfCollect, refusedCollect, acceptedCollect, collect}
-use Rattle.entries.specs.Entries.{nextAt, decode}
+use Rattle.entries.specs.Entries.{decode}
 use Rattle.steps.specs.Session.{before, refused, accepted, called, collected, blank, perform, step}
 use Rattle.lines.specs.Lines.{digits, number, line, noted, ending}
 use Rattle.steps.specs.Run.{rest, run, transcript}
@@ -70,7 +70,7 @@ record Examples : Type 0 where
   seven : transcript (take 7 input) ≡ 48 ∷ 32 ∷ 57 ∷ 32 ∷ 48 ∷ 10 ∷ 101 ∷ 110 ∷ 100 ∷ 32 ∷ 49 ∷ 32 ∷ 48 ∷ 32 ∷ 49 ∷ 10 ∷ []
 
 examples : Examples
-unfolding from block each has count first headerOf sizeOf refsOf isHeader isPageSize pageAtStart isShape pageNamed pagesNamed isFree lowestFree pagesUsed pagesUnhinted pagesNeeded otherLabel isLaidOut isLabel isOpen isValid walk behind starts stop isInUse isStart isReference landing lookUp isBlank refsGood isUsedSound isPageSound isFillSound isSound calls.refused calls.accepted start withObject allocate load mayStore store hintPage hintPages takePage withRoom top put copyObject forward forwardRoots sweepReference sweepReferences sweepPage sweepQueue freedLabels freedHeap planOf begun afterHints afterRoots afterSweep collection unhinted hasRoom refusalOfCollect refusedCollect acceptedCollect collect nextAt decode before refused accepted called collected blank perform step digits number line noted ending rest run transcript input output
+unfolding from block each has count first headerOf sizeOf refsOf isHeader isPageSize pageAtStart isShape pageNamed pagesNamed isFree lowestFree pagesUsed pagesUnhinted pagesNeeded otherLabel isLaidOut isLabel isOpen isValid walk behind starts stop isInUse isStart isReference landing lookUp isBlank refsGood isUsedSound isPageSound isFillSound isSound calls.refused calls.accepted start withObject allocate load mayStore store hintPage hintPages takePage withRoom top put copyObject forward forwardRoots sweepReference sweepReferences sweepPage sweepQueue freedLabels freedHeap planOf begun afterHints afterRoots afterSweep collection unhinted hasRoom refusalOfCollect refusedCollect acceptedCollect collect decode before refused accepted called collected blank perform step digits number line noted ending rest run transcript input output
 examples = record {
   document01 = refl;
   empty = refl;
