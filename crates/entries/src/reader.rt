@@ -1,6 +1,6 @@
-// A reader: the lent bytes and a place in them, in one value. Its functions are thin. Each takes it apart, and leaves to the
-// cursor what stands at the place. Their proofs walk the code by hand, since Rattle proves nothing by itself of a struct that
-// holds a reference; `read` asks for bytes and a number alone, so that those who call it need no such proof.
+// A reader: the lent bytes and a place in them, in one value. Its functions are thin: each takes it apart, and leaves the rest
+// to the cursor. Their proofs walk the code by hand, since Rattle proves nothing by itself of a struct that holds a reference.
+// `read` asks for bytes and a number alone, so that those who call it need no such proof.
 use crate::Cursor;
 use crate::Next;
 ghost use mathlib.Core.Path.{_≡_};

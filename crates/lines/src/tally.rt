@@ -1,5 +1,6 @@
-// The running tally: by value, and lent. What is proved by hand is thin: `note` replaces what it is lent by what `noted`
-// gives, and `tallied` lends a local to `note`. Those who call `tallied` need no such proof.
+// The running tally, by value and lent. `note` and `tallied` are thin, since their proofs walk the code by hand: Rattle proves
+// nothing by itself of a struct behind a `&mut`. `tallied` takes and gives the tally by value, so that those who call it need
+// no such proof.
 ghost use mathlib.Core.Path.{_≡_};
 ghost use Rattle.lines.specs.Lines.{none, noted};
 ghost use Rattle.lines.specs.Put.{Adds};
@@ -37,7 +38,7 @@ impl Tally {
     }
 }
 
-// The same, of a tally that is lent.
+// One record more, in a tally that is lent.
 pub fn note(t: &mut Tally, refusal: u32)
     requires { ⌜ Adds (now t) ⌝ }
     ensures { λ _. ⌜ now (t .exit) ≡ noted (now (t .entry)) refusal ⌝ }
@@ -45,7 +46,7 @@ pub fn note(t: &mut Tally, refusal: u32)
     *t = (*t).noted(refusal);
 }
 
-// By value again, through the tally lent.
+// One record more, by value: a local is lent for it.
 pub fn tallied(t: Tally, refusal: u32) -> Tally
     requires { ⌜ Adds t ⌝ }
     ensures { λ r. ⌜ r ≡ noted t refusal ⌝ }

@@ -1,6 +1,7 @@
--- `entries::reader::after` meets its contract: a walk of its MIR, by hand. A struct is made anew of the slice that the one passed holds, and of what `after_at` gives for its number. All that the proof knows of `after_at` is that it meets its contract.
--- The struct is Copy: what it owns is had twice, one copy is kept whole for the exit, and the other, with the facts of the new number in the place of at's, is what the result owns.
--- Assumes nothing.
+-- `entries::reader::after` meets its contract: a walk of its MIR, by hand. A struct is made anew of the slice that the one passed
+-- holds, and of what `after_at` gives for its number. All that the proof knows of `after_at` is that it meets its contract. The
+-- struct is Copy: what it owns is had twice, one copy is kept whole for the exit, and the other, with the facts of the new number
+-- in the place of the old one's, is what the result owns. Assumes nothing.
 use mathlib.Core.Path.{_≡_, refl, ap}
 use Prim.Native.Nat.{ℕ, _<_, _≤_, _+_, _^_}
 use mathlib.Core.List.{List, [], _∷_}
@@ -43,10 +44,10 @@ use denote.Triple.Clauses.{ensured, lasts}
 use Rattle.entries.specs.declared.reader.Reader.{Reader}
 use Rattle.entries.proofs.reader.Reader as T
 use Rattle.entries.proofs.reader.Reader.Laws as T′
-use Rattle.entries.proofs.reader.after_at as step
-use Rattle.entries.proofs.reader.after_at.Symbol as step-def
+use Rattle.entries.proofs.reader.after_at as callee
+use Rattle.entries.proofs.reader.after_at.Symbol as callee-def
 use Rattle.entries.proofs.reader.after_at.Symbol.{name as #entries·reader·after-at}
-use Rattle.entries.proofs.reader.after_at.Met as step-thm
+use Rattle.entries.proofs.reader.after_at.Met as callee-thm
 use Rattle.entries.proofs.reader.after.Key.{name as #entries·reader·after}
 use Rattle.entries.proofs.reader.after as after
 use Rattle.entries.proofs.reader.after.Statement as stated
@@ -62,7 +63,7 @@ stayed = (stay-none B yes, tt)
 module _ {M : Type 1} (𝓤 : URA M) (H : Heap 𝓤) (A : Atoms 𝓤) (mem : Memory → SProp 𝓤) (run : Routine → Fun 𝓤) where
   -- the contract that the proof cites
   abbrev AfterAt : Contract 𝓤
-  AfterAt = tripleOf 𝓤 H A step.signature (step.spec 𝓤 H A mem run)
+  AfterAt = tripleOf 𝓤 H A callee.signature (callee.spec 𝓤 H A mem run)
 
 module _ {M : Type 1} (𝓤 : URA M) (H : Heap 𝓤) (A : Atoms 𝓤) (W : Given 𝓤 H A) (mem : Memory → SProp 𝓤) (run : Routine → Fun 𝓤) (κ : Lft) (q : Share) (d : Reader) (near : d .at ≤ 64000) where
   abbrev mach : Val
@@ -87,8 +88,8 @@ module _ {M : Type 1} (𝓤 : URA M) (H : Heap 𝓤) (A : Atoms 𝓤) (W : Given
   asked : ent 𝓤 (sem 𝓤 H A ftrue) (AfterAt 𝓤 H A mem run .pre to)
   asked = qed W (‵ ftrue ∷ []) ∵ says ! near $ frame ! $ nothing ! $ owned ! usize (Is usize) (uint-makes 𝓤 H A W w64) (d .at) _ (refl, omega (arith, near)) $ fjoin ! $ done !
 
-  said : (m : ℕ) → ent 𝓤 (ensured 𝓤 H A step.ended (step.clauses 𝓤 H A mem run) tt (d .at, tt) tt m) (fact 𝓤 (m ≡ d .at + 8))
-  said m = exE 𝓤 _ (λ ws. snd∗ 𝓤 (sem 𝓤 H A (lasts step.ended tt (d .at, tt) ws)) (fact 𝓤 (m ≡ d .at + 8)))
+  said : (m : ℕ) → ent 𝓤 (ensured 𝓤 H A callee.ended (callee.clauses 𝓤 H A mem run) tt (d .at, tt) tt m) (fact 𝓤 (m ≡ d .at + 8))
+  said m = exE 𝓤 _ (λ ws. snd∗ 𝓤 (sem 𝓤 H A (lasts callee.ended tt (d .at, tt) ws)) (fact 𝓤 (m ≡ d .at + 8)))
 
   exits : (m : ℕ) → m < 2 ^ 64 → m ≡ d .at + 8 → ent 𝓤 (onEntry 𝓤 H A after.signature (κ, tt) (q, tt) (d, tt) at) (Post (T′.lowered (d′ m)))
   exits m fits e =
@@ -108,7 +109,7 @@ module _ {M : Type 1} (𝓤 : URA M) (H : Heap 𝓤) (A : Atoms 𝓤) (W : Given
         assigns ! (of-opd ! (load ! (from ! (fld ! refl (stop !))) (look-in ! 6 (sub ! 1 refl (whole !))))) (from ! (stop !)) (init ! 0 refl (tt, wt .1 .1 .0)) $
         nothing ! $ use1 W (raw (AfterAt 𝓤 H A mem run .pre to)) asked $
         calls-at ! fm (AfterAt 𝓤 H A mem run) known to (and-then ! (load ! (from ! (stop !)) (look ! 1 refl)) (no-more !)) (λ u.
-        use1 W (later (some (λ (m : ℕ). (‵ ftrue ⊛ ‵ (usize .own m (u ∷ []))) ⊛ raw (ensured 𝓤 H A step.ended (step.clauses 𝓤 H A mem run) tt (d .at, tt) tt m)))) (id⊢ 𝓤 _) $ await ! tt $ pick ! (λ m.
+        use1 W (later (some (λ (m : ℕ). (‵ ftrue ⊛ ‵ (usize .own m (u ∷ []))) ⊛ raw (ensured 𝓤 H A callee.ended (callee.clauses 𝓤 H A mem run) tt (d .at, tt) tt m)))) (id⊢ 𝓤 _) $ await ! tt $ pick ! (λ m.
         split ! $ move ! (1 ∷ []) $ use1 W (raw (fact 𝓤 (m ≡ d .at + 8))) (said m) $ heard ! (m ≡ d .at + 8) (λ e. split ! $ drop ! $
         peeks ! usize (Is usize) (shows 𝓤 H A usize) m (u ∷ []) (λ is. drop ! $
         -- the number's machine value is written out
@@ -136,4 +137,4 @@ after-spec 𝓤 H 𝓜 𝓖 𝓡 =
     entered 𝓤 H (tripleOf 𝓤 H (𝓖 .A) after.signature (after.spec 𝓤 H (𝓖 .A) (𝓜 .mem) (𝓡 .run)))
     (tables 𝓤 H 𝓜 𝓡 code.env .C) (tables 𝓤 H 𝓜 𝓡 code.env .Λ) #entries·reader·after code.function (code.unfolded 𝓤 H 𝓜 𝓡)
     (after-meets 𝓤 H (𝓖 .A) (givenOf 𝓤 H 𝓜 𝓖) (𝓜 .mem) (𝓡 .run) (tablesOf 𝓤 H 𝓜 (tables 𝓤 H 𝓜 𝓡 code.env))
-    (cited 𝓤 H (AfterAt 𝓤 H (𝓖 .A) (𝓜 .mem) (𝓡 .run)) 𝓜 𝓡 code.env #entries·reader·after-at step-def.routine code.calls-entries·reader·after-at (step-thm.met 𝓤 H 𝓜 𝓖 𝓡)))
+    (cited 𝓤 H (AfterAt 𝓤 H (𝓖 .A) (𝓜 .mem) (𝓡 .run)) 𝓜 𝓡 code.env #entries·reader·after-at callee-def.routine code.calls-entries·reader·after-at (callee-thm.met 𝓤 H 𝓜 𝓖 𝓡)))

@@ -1,6 +1,6 @@
--- `entries::reader::place` meets its contract: a walk of its MIR, by hand. A `Reader` is made of the slice passed and 0, in the result's local.
--- A `&[u8]` is Copy, so what it owns is had twice: once for bytes at exit, and once inside the result, beside the facts of at.
--- Assumes nothing.
+-- `entries::reader::place` meets its contract: a walk of its MIR, by hand. A `Reader` is made of what is passed, in the result's
+-- local. A `&[u8]` is Copy, so what it owns is had twice: once for the parameter at exit, and once inside the result, beside the
+-- facts of the number. Assumes nothing.
 use mathlib.Core.Path.{refl}
 use Prim.Native.Nat.{ℕ, _<_, _^_}
 use mathlib.Core.List.{List, [], _∷_}

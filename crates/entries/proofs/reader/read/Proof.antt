@@ -1,6 +1,6 @@
--- `entries::reader::read` meets its contract: a walk of its MIR, by hand. A `Reader` is placed, kept in a local, read, and moved one entry on, by three calls.
--- The struct is Copy: what it owns is had twice, once for each of the calls that take it. Of what the third call returns the number is read, so its machine value is written out.
--- Assumes nothing.
+-- `entries::reader::read` meets its contract: a walk of its MIR, by hand. A `Reader` is placed, kept in a local, read, and moved
+-- one entry on, by three calls. The struct is Copy: what it owns is had twice, once for each of the calls that take it. Of what
+-- the third call returns the number is read, so its machine value is written out. Assumes nothing.
 use mathlib.Core.Path.{_≡_, refl, ap, _∙_}
 use Prim.Native.Nat.{ℕ, _+_, _<_, _≤_, _^_}
 use native.Mathlib.Omega.{arith}

@@ -1,5 +1,5 @@
--- `lines::tally::note` meets its contract: a walk of its MIR, by hand. The borrow is opened, the struct is copied out and passed to `noted`, and what that returns is stored in its place.
--- Assumes nothing.
+-- `lines::tally::note` meets its contract: a walk of its MIR, by hand. The borrow is opened, the struct is copied out and passed to
+-- `noted`, and what that returns is stored in its place. Assumes nothing.
 use mathlib.Core.Path.{_≡_, refl}
 use Prim.Native.Nat.{ℕ, _<_, _^_}
 use mathlib.Core.List.{List, [], _∷_}

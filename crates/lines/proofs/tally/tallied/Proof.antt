@@ -1,5 +1,6 @@
--- `lines::tally::tallied` meets its contract: a walk of its MIR, by hand. The struct is copied to a local, which is lent for a lifetime that the walk makes, to `note`; the lifetime ends, and the local is back at the last value that `note` says.
--- Assumes nothing.
+-- `lines::tally::tallied` meets its contract: a walk of its MIR, by hand. The struct is copied to a local, which is lent to `note`
+-- for a lifetime that the walk makes; the lifetime ends, and the local is back at the last value that `note` says. Assumes
+-- nothing.
 use mathlib.Core.Path.{_≡_, refl, sym, subst, ap}
 use Prim.Native.Nat.{ℕ, _<_, _^_}
 use mathlib.Core.List.{List, [], _∷_}
