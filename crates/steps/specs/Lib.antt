@@ -4,3 +4,4 @@ pub mod Soundness
 pub mod Run
 pub mod Code
 pub mod Examples
+pub mod Determined
