@@ -131,7 +131,7 @@ static void bench_word(const char *what, int calls, uint32_t repeats, uint32_t p
   }
 }
 
-/* A live structure over a third of the pages. */
+/* A live structure over a third of the pages; `crowded`, over half of them, so that only hints make room. */
 static void build(const char *shape, uint32_t page, uint32_t pages)
 {
   uint32_t i, used = pages / 3 - 1;
@@ -156,6 +156,9 @@ static void build(const char *shape, uint32_t page, uint32_t pages)
     roots_len = made_len;
   } else if (strcmp(shape, "dead") == 0) {
     fill_pages(used, 3, 1);
+    roots[0] = made[made_len / 2];
+  } else if (strcmp(shape, "crowded") == 0) {
+    fill_pages(pages / 2, 3, 1);
     roots[0] = made[made_len / 2];
   } else {
     printf("no such shape\n");
@@ -204,6 +207,7 @@ static const char *const workloads[] = {
   "20 collect arrays 128 64 0", "4 collect arrays 128 1024 0", "2 collect arrays 128 4096 0",
   "20 collect dead 128 64 0", "4 collect dead 128 1024 0", "2 collect dead 128 4096 0",
   "4 collect list 128 1024 16", "4 collect list 128 1024 8192", "2 collect list 128 4096 8192", "20 collect list 128 64 8192",
+  "20 collect crowded 128 64 256", "4 collect crowded 128 1024 8192", "2 collect crowded 128 4096 8192",
 };
 
 static uint32_t number(char **argv, int at) { return (uint32_t)strtoul(argv[at], NULL, 10); }

@@ -2,7 +2,7 @@
 -- one less.
 use mathlib.Core.Path.{_≡_, refl, sym, ap, _∙_}
 use mathlib.Core.Logic.{_≢_, _⊎_, inl, inr}
-use mathlib.Core.Bool.{Bool, true, false, cond, not}
+use mathlib.Core.Bool.{Bool, true, false, cond, not, _&&_}
 use mathlib.Core.List.{List, [], _∷_}
 use Prim.Native.Nat.{ℕ, zero, suc, _+_, _-_, _≤_, _<_}
 use native.Mathlib.Decide.{ℕ-discrete}
@@ -11,9 +11,10 @@ use lib.ListN.{length, set, List·getD-eq-default}
 use lib.Seq.{getD-set-same, getD-set-other}
 use lib.Dec.{eqb}
 use borrow.Author.Tests.{eqb-true, eq-eqb, ne-eqb}
-use Rattle.rules.specs.Ranges.{at, from, block, count, first}
+use Rattle.rules.specs.Ranges.{at, from, block, has, count, first}
 use Rattle.laws.specs.Lists.{count-past, count-none, count-yes, count-no, first-past, first-here, first-step}
-use Rattle.rules.specs.Pages.{isFree, lowestFree, pagesUsed}
+use Rattle.rules.specs.Pages.{isFree, lowestFree, pagesUsed, pagesUnhinted}
+use Rattle.rules.specs.Tests.{and-left}
 
 -- ---- counting in a range
 
@@ -39,6 +40,16 @@ pub count-same : (f e : ℕ → Bool) → ((x : ℕ) → e x ≡ f x) → (xs : 
 unfolding count
 count-same f e h [] = refl
 count-same f e h (x ∷ xs) = rw (h x, count-same f e h xs)
+
+-- a test that passes less often counts less
+pub count-fewer : (f e : ℕ → Bool) → ((x : ℕ) → e x ≡ true → f x ≡ true) → (xs : List ℕ) → count e xs ≤ count f xs
+unfolding count
+count-fewer f e h [] = omega arith
+count-fewer f e h (x ∷ xs) = go (e x) refl (count-fewer f e h xs)
+  where
+    go : (b : Bool) → e x ≡ b → count e xs ≤ count f xs → cond b 1 0 + count e xs ≤ cond (f x) 1 0 + count f xs
+    go true q ih = rw (h x q) (omega arith)
+    go false q ih = omega arith
 
 -- the tests differ at g alone
 module _ (f e : ℕ → Bool) (g : ℕ) (was : f g ≡ true) (now : e g ≡ false) (same : (x : ℕ) → x ≢ g → e x ≡ f x) where
@@ -108,6 +119,12 @@ lowest labels lo hi h =
 pub used-and-free : (labels : List ℕ) (lo hi : ℕ) → pagesUsed labels lo hi + freePages labels lo hi ≡ hi - lo
 unfolding pagesUsed freePages
 used-and-free labels lo hi = count-not (isFree labels) (block lo hi) ∙ block-length lo hi
+
+-- no more pages are unhinted than are in use
+pub unhinted-few : (labels : List ℕ) (lo hi : ℕ) (named : List ℕ) → pagesUnhinted labels lo hi named ≤ pagesUsed labels lo hi
+unfolding pagesUnhinted pagesUsed
+unhinted-few labels lo hi named =
+    count-fewer (λ g. not (isFree labels g)) (λ g. not (isFree labels g) && not (has g named)) (λ g q. and-left (not (isFree labels g)) _ q) (block lo hi)
 
 -- where fewer are in use than there are, one is found
 pub lowest-free : (labels : List ℕ) (lo hi : ℕ) → pagesUsed labels lo hi < hi - lo → Lowest labels lo hi

@@ -24,15 +24,16 @@ fn mark_named(marks: &mut [bool; 4096], hints: &[u32], page: u32, pages: u32)
     }
 }
 
-// Page g is in use and not marked.
+// Page g is in use and not marked. The mark is read in any case, so that counting needs no branch.
 fn is_unmarked(labels: &[u16], marks: &[bool; 4096], g: usize) -> bool
     requires { ⌜ g < 4096 ⌝ }
     ensures { λ r. ⌜ r ≡ unmarked (now (labels .entry)) (now (marks .entry)) g ⌝ }
 {
+    let marked = marks[g];
     if record::label_at(labels, g) == 0 {
         return false;
     }
-    !marks[g]
+    !marked
 }
 
 // How many pages are in use and not marked. Those past the labels are free.
