@@ -179,3 +179,16 @@ pub fn collections() {
         &mut [8u32; 2],
     );
 }
+
+// A session of one record, a start with P 128 and this T: what it prints.
+fn session_start(asked: &[u8], pages: u8) {
+    let mut out = [0u8; 264037];
+    let n = steps::run(&[0, 0, 0, pages, 128, 0, 0, 0], &mut out);
+    io::write_all(1, asked);
+    io::write_all(1, &out[..n]);
+}
+
+pub fn sessions() {
+    session_start(b"a session start with P 128, T 64: ", 64);
+    session_start(b"a session start with P 128, T 65: ", 65);
+}

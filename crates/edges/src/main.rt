@@ -56,4 +56,5 @@ fn main() {
     calls::starts();
     calls::allocations();
     calls::collections();
+    calls::sessions();
 }
