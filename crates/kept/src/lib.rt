@@ -1,2 +1,2 @@
 // The calls keep the heap sound, and a refused call changes nothing: proved over the definitions of `rules`. All of it is in
-// specs/. There is no code here but this one, since a crate has some.
+// specs/. There is no code here.

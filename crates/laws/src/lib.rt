@@ -1,2 +1,1 @@
-// Laws of the definitions of `rules`, for every crate above to cite: all of it is in specs/. There is no code here but this
-// one, since a crate has some.
+// Laws of the definitions of `rules`, for every crate above to cite: all of it is in specs/. There is no code here.
