@@ -1,4 +1,4 @@
-/* plain.c: document 01's rules as a C programmer would write them by hand for speed, to stand beside the proved library in bench/run:
+/* plain.c: document 01's rules, with Q-1, as a C programmer would write them by hand for speed, to stand beside the proved library in bench/run:
    the same tests, the same order of work and the same memory, nothing besides what is lent. Pages are found by a shift, the free page of
    a collection by a cursor that only moves up, and the queue is the links in order of joining. It answers as the model does:
    bench/run checks that before it counts. */
@@ -263,6 +263,7 @@ fouterpin_collected plain_collect(uint32_t *heap, size_t heap_len, uint16_t *lab
   for (i = 0; i < roots_len; i++)
     if (!is_reference(heap, labels, &r, c.shift, roots[i]))
       return refused(FOUTERPIN_BAD_REFERENCE, r);
+  /* A hint word names its own page, and the one before where it begins a page: elsewhere both are one. */
   /* Hints give the new label before it is known whether there is room; where there is none they take it back. */
   for (which = 1; which < r.pages; which++)
     used += labels[which] != 0;
@@ -271,6 +272,10 @@ fouterpin_collected plain_collect(uint32_t *heap, size_t heap_len, uint16_t *lab
     which = hints[i] >> c.shift;
     if (which != 0 && which < r.pages && labels[which] == old) {
       labels[which] = (uint16_t)c.fresh_label;
+      hinted++;
+    }
+    if ((hints[i] & (r.page - 1)) == 0 && which > 1 && which <= r.pages && labels[which - 1] == old) {
+      labels[which - 1] = (uint16_t)c.fresh_label;
       hinted++;
     }
   }
@@ -294,6 +299,10 @@ fouterpin_collected plain_collect(uint32_t *heap, size_t heap_len, uint16_t *lab
     if (which != 0 && which < r.pages && labels[which] == c.fresh_label) {
       labels[which] = (uint16_t)old;
       links[c.queued++] = (uint16_t)which;
+    }
+    if ((hints[i] & (r.page - 1)) == 0 && which > 1 && which <= r.pages && labels[which - 1] == c.fresh_label) {
+      labels[which - 1] = (uint16_t)old;
+      links[c.queued++] = (uint16_t)(which - 1);
     }
   }
   for (i = 0; i < c.queued; i++)
@@ -330,6 +339,11 @@ uint32_t plain_page_named(uint32_t word, uint32_t page, uint32_t pages)
     return 0;
   which = word / page;
   return which < pages ? which : 0;
+}
+
+uint32_t plain_page_named_before(uint32_t word, uint32_t page, uint32_t pages)
+{
+  return word == 0 ? 0 : plain_page_named(word - 1, page, pages);
 }
 
 uint32_t plain_pages_needed(uint32_t unhinted)

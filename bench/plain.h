@@ -15,6 +15,7 @@ fouterpin_answer plain_store(uint32_t *heap, size_t heap_len, uint16_t *labels, 
 fouterpin_collected plain_collect(uint32_t *heap, size_t heap_len, uint16_t *labels, size_t labels_len, uint16_t *links, size_t links_len,
                                   fouterpin_record r, uint32_t *roots, size_t roots_len, const uint32_t *hints, size_t hints_len);
 uint32_t plain_page_named(uint32_t word, uint32_t page, uint32_t pages);
+uint32_t plain_page_named_before(uint32_t word, uint32_t page, uint32_t pages);
 uint32_t plain_pages_needed(uint32_t unhinted);
 
 #endif

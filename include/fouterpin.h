@@ -29,8 +29,8 @@
    (it is then the one given). Its fields are for reading; any other numbers in it are refused with 1 or, where they are valid
    (fouterpin_start alone takes any), believed.
 
-   LIFETIME OF AN OBJECT. Between collections no object moves. A collection keeps the objects on pages that a hint names, where they
-   are; it moves every other object that can be reached from those or from a root cell; it forgets the rest and zeroes their pages.
+   LIFETIME OF AN OBJECT. Between collections no object moves. A collection keeps the objects on pages that a hint names (its own page
+   and that of the word before it), where they are; it moves every other object that can be reached from those or from a root cell; it forgets the rest and zeroes their pages.
    After it, an address is good only if it was read from a root cell, read from a reference of an object that stayed, or named an object
    on a hinted page. fouterpin_load and fouterpin_store refuse what is no object's address, but a stale address may by chance be
    another object's.
@@ -106,17 +106,20 @@ fouterpin_answer fouterpin_load(const uint32_t *heap, size_t heap_len, const uin
 fouterpin_answer fouterpin_store(uint32_t *heap, size_t heap_len, uint16_t *labels, size_t labels_len, uint16_t *links, size_t links_len,
                                  fouterpin_record r, uint32_t address, uint32_t index, uint32_t value);
 
-/* Collects. Every page in use that holds the place of a hint word stays, with all of its objects; everything else that is reached
-   from there or from the root cells is copied together, and every reference and root cell is corrected; all other pages are zeroed
-   and freed. A hint may be any word: an address inside an object keeps it as well as its own, and a number that is no address does no
-   harm but to keep a page. Refused: 1, 7, 6, 8. After 8, collect with fewer pages in use, or lend a larger heap: more hints may help, since a
+/* Collects. Every page in use that holds the place of a hint word, or the place before it, stays, with all of its objects; everything
+   else that is reached from there or from the root cells is copied together, and every reference and root cell is corrected; all other
+   pages are zeroed and freed. A hint may be any word: an address inside an object, or just past its last word, keeps it as well as its
+   own, and a number that is no address does no harm but to keep a page, or two. Refused: 1, 7, 6, 8. After 8, collect with fewer pages in use, or lend a larger heap: more hints may help, since a
    page that stays needs no room. */
 fouterpin_collected fouterpin_collect(uint32_t *heap, size_t heap_len, uint16_t *labels, size_t labels_len, uint16_t *links, size_t links_len,
                                       fouterpin_record r, uint32_t *roots, size_t roots_len, const uint32_t *hints, size_t hints_len);
 
-/* The page, 1 to pages - 1, in which the place `word` lies; 0 if there is none, and if `page` or `pages` is bad (0 is bad here). Looks at
-   no label: the page may be free. Refuses nothing. */
+/* A hint word names two pages, its own and that of the word before it, so that an address just past the end of an object keeps the object.
+   These two calls say which: the page, 1 to pages - 1, in which the place `word` lies, and that in which the place word - 1 lies; mostly they
+   are one. 0 if there is none (always where word is 0, for the second), and if `page` or `pages` is bad (0 is bad here). They look at no
+   label: the page may be free. Refuse nothing. */
 uint32_t fouterpin_page_named(uint32_t word, uint32_t page, uint32_t pages);
+uint32_t fouterpin_page_named_before(uint32_t word, uint32_t page, uint32_t pages);
 
 /* How many free pages a collection may need where no hint names `unhinted` of the pages in use: 0 for 0, else 2 * unhinted - 1; above
    4,095 it is 4,294,967,295. Refuses nothing. */

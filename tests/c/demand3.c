@@ -209,6 +209,13 @@ static const char *pages_and_counts(const search *s, const uint32_t counts[4])
   return NULL;
 }
 
+/* The page of this place is hinted, if it is one in use. */
+static void hold(search *s, size_t place)
+{
+  if (place >= s->before->page && place < s->before->heap_len && s->before->labels[place / s->before->page] == s->before->label)
+    s->hinted[place / s->before->page] = 1;
+}
+
 static void *fresh(size_t count, size_t size)
 {
   void *p = calloc(count + 1, size);
@@ -240,9 +247,11 @@ const char *demand3_collection(const demand3_memory *before, const demand3_memor
   s.list = fresh(before->heap_len, sizeof *s.list);
   s.listed = 0;
   s.followed = 0;
-  for (i = 0; i < hints_len; i++)
-    if (hints[i] >= before->page && hints[i] < before->heap_len && before->labels[hints[i] / before->page] == before->label)
-      s.hinted[hints[i] / before->page] = 1;
+  for (i = 0; i < hints_len; i++) {
+    hold(&s, hints[i]);
+    if (hints[i] != 0)
+      hold(&s, (size_t)hints[i] - 1);
+  }
   why = search_pairs(&s);
   if (why == NULL)
     why = pages_and_counts(&s, counts);

@@ -245,8 +245,8 @@ static void print_answer(record r)
 }
 
 /* How often each call gave each refusal. */
-enum { starts, allocs, loads, stores, collects, pages_asked, needs_asked, calls };
-static const char *const call_names[calls] = {"start", "alloc", "load", "store", "collect", "page", "need"};
+enum { starts, allocs, loads, stores, collects, pages_asked, befores_asked, needs_asked, calls };
+static const char *const call_names[calls] = {"start", "alloc", "load", "store", "collect", "page", "before", "need"};
 static uint64_t given[calls][10];
 
 static void counted(int call, uint32_t refusal)
@@ -422,6 +422,11 @@ static int run_line(char *text)
   if (strcmp(name, "page") == 0) {
     counted(pages_asked, 0);
     printf("page %" PRIu32 "\n", CALL(page_named)(numbers[0], numbers[1], numbers[2]));
+    return 1;
+  }
+  if (strcmp(name, "before") == 0) {
+    counted(befores_asked, 0);
+    printf("before %" PRIu32 "\n", CALL(page_named_before)(numbers[0], numbers[1], numbers[2]));
     return 1;
   }
   if (strcmp(name, "need") == 0) {

@@ -3,7 +3,7 @@
    generate SEED CALLS > script      at least CALLS calls; the same seed gives the same script on every machine
 
    Episodes of five kinds, in turn by chance: honest runs from a fresh start; sound heaps built directly; the same with aimed damage to a
-   header, a tail, a label, the record, a reference or a length; memory that is junk under a record that is not; and the two calls on
+   header, a tail, a label, the record, a reference or a length; memory that is junk under a record that is not; and the calls on
    numbers. The generator keeps the state itself, by the model, so that it knows addresses to aim at; what the answers are is none of its
    business. Sizes are weighted to small, where every edge is near. */
 #include "model.h"
@@ -698,12 +698,15 @@ static void numbers_run(void)
       pages = chance(50) ? below(3) : chance(50) ? 4090 + below(12) : any_word();
     word = page * below(pages + 2);
     word = chance(50) ? word - below(2) : chance(50) ? page * pages - below(3) : any_word();
+    if (chance(5))
+      word = 0;
     printf("page %" PRIu32 " %" PRIu32 " %" PRIu32 "\n", word, page, pages);
+    printf("before %" PRIu32 " %" PRIu32 " %" PRIu32 "\n", word, page, pages);
   }
   printf("need %" PRIu32 "\n", below(5));
   printf("need %" PRIu32 "\n", 4094 + below(4));
   printf("need %" PRIu32 "\n", any_word());
-  calls_made += 9;
+  calls_made += 15;
 }
 
 int main(int argc, char **argv)

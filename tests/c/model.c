@@ -1,5 +1,5 @@
-/* model.c: document 01's calls as a model in C, written from the document alone, in its words and order, plain rather than fast. Nothing
-   here was taken from the Rattle code; the tests compare the two. It assumes nothing of what it is lent beyond true lengths.
+/* model.c: document 01's calls as a model in C, with request Q-1 of document 02, written from the two alone, in their words and order, plain
+   rather than fast. Nothing here was taken from the Rattle code; the tests compare the two. It assumes nothing of what it is lent beyond true lengths.
    tests/c/mutants plants errors in this file by exact lines: a line changed here is changed there. */
 #include "model.h"
 
@@ -279,13 +279,21 @@ static void join(world *w, uint32_t page)
   w->queued = w->queued + 1;
 }
 
-/* The page that a hint word names, or 0: "its page if that is 1 to T-1 and current". */
-static uint32_t page_of_hint(const world *w, uint32_t hint)
+/* The page of a word, or 0: "its page if that is 1 to T-1 and current". */
+static uint32_t page_of_word(const world *w, uint32_t word)
 {
-  uint32_t page = hint / w->r.page;
+  uint32_t page = word / w->r.page;
   if (page >= 1 && page <= w->r.pages - 1 && w->labels[page] == w->r.label)
     return page;
   return 0;
+}
+
+/* "A hint word w names its own page first and then, if w is at least 1, the page of w - 1." */
+static int names(const world *w, uint32_t hint, uint32_t page)
+{
+  if (page_of_word(w, hint) == page)
+    return 1;
+  return hint >= 1 && page_of_word(w, hint - 1) == page;
 }
 
 /* k': pages in use "that no hint names". */
@@ -298,7 +306,7 @@ static uint32_t pages_unhinted(const world *w, const uint32_t *hints, size_t hin
     if (w->labels[page] == 0)
       continue;
     for (i = 0; i < hints_len; i++)
-      if (page_of_hint(w, hints[i]) == page)
+      if (names(w, hints[i], page))
         named = 1;
     if (!named)
       count = count + 1;
@@ -344,16 +352,23 @@ static uint32_t forward(world *w, uint32_t reference)
   return copy_object(w, reference);
 }
 
+/* A page that a hint word names, or 0. One that has joined is not current any more, so it joins once. */
+static void read_hint(world *w, uint32_t page)
+{
+  if (page != 0) {
+    join(w, page);
+    w->hinted = w->hinted + 1;
+  }
+}
+
 /* Step 1. */
 static void read_hints(world *w, const uint32_t *hints, size_t hints_len)
 {
   size_t i;
   for (i = 0; i < hints_len; i++) {
-    uint32_t page = page_of_hint(w, hints[i]);
-    if (page != 0) {
-      join(w, page);
-      w->hinted = w->hinted + 1;
-    }
+    read_hint(w, page_of_word(w, hints[i]));
+    if (hints[i] >= 1)
+      read_hint(w, page_of_word(w, hints[i] - 1));
   }
 }
 
@@ -458,6 +473,14 @@ uint32_t model_page_named(uint32_t word, uint32_t page, uint32_t pages)
   if (word / page < 1 || word / page > pages - 1)
     return 0;
   return word / page;
+}
+
+/* "and a second one for w - 1 (0 at w = 0)". */
+uint32_t model_page_named_before(uint32_t word, uint32_t page, uint32_t pages)
+{
+  if (word == 0)
+    return 0;
+  return model_page_named(word - 1, page, pages);
 }
 
 /* "How many pages a collection may need." */

@@ -180,6 +180,45 @@ pub fn collections() {
     );
 }
 
+// Pages 1 and 2 are full, each with a reference to an object on page 3; the one hint is word 16, where the first ends and
+// the second begins.
+fn boundaries_on(heap: &mut [u32], labels: &mut [u16], links: &mut [u16]) {
+    let fresh = heap::start(heap, labels, links, none(), 8, 12).rec;
+    let r1 = heap::allocate(heap, labels, links, fresh, 7, 1).rec;
+    let r2 = heap::allocate(heap, labels, links, r1, 7, 1).rec;
+    let r3 = heap::allocate(heap, labels, links, r2, 2, 0).rec;
+    let r4 = heap::allocate(heap, labels, links, r3, 2, 0).rec;
+    heap::store(heap, labels, links, r4, 8, 0, 24);
+    heap::store(heap, labels, links, r4, 16, 0, 27);
+    let c = collector::collect(heap, labels, links, r4, &mut [0u32; 1], &[16u32; 1]);
+    line(
+        b"* pages that word 16, at a boundary, keeps: ",
+        c.hinted as u64,
+    );
+    payload(
+        b"* the copy that page 2 refers to, made first: ",
+        heap,
+        labels,
+        links,
+        c.rec,
+        16,
+        0,
+    );
+    payload(
+        b"* the copy that page 1 refers to: ",
+        heap,
+        labels,
+        links,
+        c.rec,
+        8,
+        0,
+    );
+}
+
+pub fn boundaries() {
+    boundaries_on(&mut [7u32; 96], &mut [7u16; 12], &mut [7u16; 12]);
+}
+
 // A session of one record, a start with P 128 and this T: what it prints.
 fn session_start(asked: &[u8], pages: u8) {
     let mut out = [0u8; 264037];

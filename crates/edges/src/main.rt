@@ -1,5 +1,5 @@
-// Document 01's edges, run on the code: a line for each, what was asked and what it answers. Its stdout is what the paper
-// says. The starred ones are also one table under one theorem (rules/specs/Edges.antt).
+// Document 01's edges and those of Q-1, run on the code: a line for each, what was asked and what it answers. Its stdout is
+// what the papers say. The starred ones are also one table under one theorem (rules/specs/Edges.antt).
 mod calls;
 
 // A line: the question and its answer.
@@ -24,6 +24,20 @@ fn pages() {
     page(b"* page named by word 8: ", 8);
     page(b"* page named by word 47: ", 47);
     page(b"* page named by word 48: ", 48);
+}
+
+fn before(asked: &[u8], word: u32) {
+    line(
+        asked,
+        solver::fouterpin_page_named_before(word, 8, 6) as u64,
+    );
+}
+
+fn befores() {
+    before(b"* page named by the word before 48: ", 48);
+    before(b"* page named by the word before 16: ", 16);
+    before(b"* page named by the word before 8: ", 8);
+    before(b"* page named by the word before 0: ", 0);
 }
 
 fn needed() {
@@ -52,9 +66,11 @@ fn needed() {
 fn main() {
     headers();
     pages();
+    befores();
     needed();
     calls::starts();
     calls::allocations();
     calls::collections();
+    calls::boundaries();
     calls::sessions();
 }

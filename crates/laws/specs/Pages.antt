@@ -11,7 +11,7 @@ use lib.Dec.{eqb, leb, ltb}
 use borrow.Author.Tests.{eqb-true, eqb-false, leb-true, eq-eqb, ne-eqb, le-leb, lt-leb, lt-ltb, le-ltb}
 use Rattle.rules.specs.Tests.{and-left, and-right}
 use Rattle.rules.specs.Ranges.{from, block, each, has, at}
-use Rattle.rules.specs.Pages.{pageSizes, isPageSize, isShape, pageNamed, pagesNeeded}
+use Rattle.rules.specs.Pages.{pageSizes, isPageSize, isShape, pageNamed, pageNamedBefore, pagesNeeded}
 use Rattle.laws.specs.Lists.{has-mem, mem-has, each-true, block-mem, mem-block}
 use native.Mathlib.Decide.{decLt}
 
@@ -142,6 +142,15 @@ module _ (P lo hi w : ℕ) where
   pub named-is : lo ≤ w / P → w / P < hi → pageNamed P lo hi w ≡ w / P
   unfolding pageNamed
   named-is a b = rw (le-leb lo (w / P) a, lt-ltb (w / P) hi b)
+
+  -- the word before: there is none before word 0
+  pub before-none : w ≡ 0 → pageNamedBefore P lo hi w ≡ 0
+  unfolding pageNamedBefore
+  before-none e = rw e
+
+  pub before-is : 0 < w → pageNamedBefore P lo hi w ≡ pageNamed P lo hi (w - 1)
+  unfolding pageNamedBefore
+  before-is h = rw (le-leb 1 w h)
 
 -- ---- how many a collection may need
 

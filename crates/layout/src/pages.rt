@@ -1,6 +1,6 @@
 // Pages by number: their size, which one a word names, how many a collection may need.
 ghost use mathlib.Core.Path.{_≡_};
-ghost use Rattle.rules.specs.Pages.{isPageSize, isShape, pageAtStart, pageNamed, otherLabel, pageNamedToC, pagesNeededToC};
+ghost use Rattle.rules.specs.Pages.{isPageSize, isShape, pageAtStart, pageNamed, pageNamedBefore, otherLabel, pageNamedToC, pageNamedBeforeToC, pagesNeededToC};
 
 // P is a power of two from 8 to 1,024.
 pub fn is_page_size(page: u32) -> bool
@@ -46,6 +46,16 @@ pub fn page_named(page: u32, lo: u32, hi: u32, word: u32) -> u32
     if g < hi { g } else { 0 }
 }
 
+// The page that the word before names, 0 for none. There is no word before word 0.
+pub fn page_named_before(page: u32, lo: u32, hi: u32, word: u32) -> u32
+    ensures { λ r. ⌜ r ≡ pageNamedBefore page lo hi word ⌝ }
+{
+    if word == 0 {
+        return 0;
+    }
+    page_named(page, lo, hi, word - 1)
+}
+
 // The same for a native solver, which may ask with any P and T: a bad one names no page.
 pub fn page_named_checked(word: u32, page: u32, pages: u32) -> u32
     ensures { λ r. ⌜ r ≡ pageNamedToC word page pages ⌝ }
@@ -54,6 +64,15 @@ pub fn page_named_checked(word: u32, page: u32, pages: u32) -> u32
         return 0;
     }
     page_named(page, 1, pages, word)
+}
+
+pub fn page_named_before_checked(word: u32, page: u32, pages: u32) -> u32
+    ensures { λ r. ⌜ r ≡ pageNamedBeforeToC word page pages ⌝ }
+{
+    if !is_shape(page, pages) {
+        return 0;
+    }
+    page_named_before(page, 1, pages, word)
 }
 
 // How many pages a collection may take where no hint names `unhinted` of the pages in use.

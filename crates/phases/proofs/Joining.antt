@@ -3,7 +3,7 @@ use mathlib.Core.Path.{_≡_, refl, sym, _∙_}
 use mathlib.Core.Logic.{_≢_}
 use mathlib.Core.Bool.{Bool, true, false, cond, _&&_}
 use mathlib.Core.List.{List, [], _∷_, _++_}
-use Prim.Native.Nat.{ℕ, zero, suc, _+_, _/_, _≤_, _<_}
+use Prim.Native.Nat.{ℕ, zero, suc, _+_, _-_, _/_, _≤_, _<_}
 use native.Mathlib.Omega.{arith}
 use native.Mathlib.Numerals.{add-one}
 use native.Mathlib.Decide.{ℕ-discrete}
@@ -13,7 +13,7 @@ use lib.Dec.{leb, ltb}
 use borrow.Author.Tests.{ltb-true, eq-eqb, ne-eqb, le-leb, lt-leb}
 use Rattle.rules.specs.Tests.{and-right}
 use Rattle.rules.specs.Ranges.{at, block, first}
-use Rattle.rules.specs.Pages.{pageNamed, pagesNamed, isFree, lowestFree}
+use Rattle.rules.specs.Pages.{pageNamed, pageNamedBefore, pagesOfHint, pagesNamed, isFree, lowestFree}
 use Rattle.rules.specs.Collection.{Plan, Pages, hintPage, hintPages, takePage, withRoom}
 use Rattle.laws.specs.Lists.{first-here, first-step}
 use Rattle.laws.specs.Safe.{SafeHint, SafeHints, SafeTake}
@@ -31,7 +31,7 @@ queue-length links t h = rw length-take (omega arith)
 
 -- ---- a hint word
 
--- the page that a word names is among the pages, n or fewer
+-- the page that a word names is among the pages, n or fewer; and so is that of the word before
 pub named-within : (P hi n w : ℕ) → hi ≤ n → 0 < n → pageNamed P 1 hi w < n
 unfolding pageNamed
 named-within P hi n w few some = go (leb 1 (w / P) && ltb (w / P) hi) refl
@@ -39,6 +39,14 @@ named-within P hi n w few some = go (leb 1 (w / P) && ltb (w / P) hi) refl
     go : (b : Bool) → (leb 1 (w / P) && ltb (w / P) hi) ≡ b → cond b (w / P) 0 < n
     go true e = let p : w / P < hi = ltb-true _ _ (and-right (leb 1 (w / P)) _ e) in omega arith
     go false e = some
+
+pub before-within : (P hi n w : ℕ) → hi ≤ n → 0 < n → pageNamedBefore P 1 hi w < n
+unfolding pageNamedBefore
+before-within P hi n w few some = go (leb 1 w)
+  where
+    go : (b : Bool) → cond b (pageNamed P 1 hi (w - 1)) 0 < n
+    go true = named-within P hi n (w - 1) few some
+    go false = some
 
 module _ (k : Shape) (labels links : List ℕ) (g : Gather) (q : ℕ) where
   pub hint-not : (at labels q ≡ k .old → ⊥) → pagesOf labels links g ≡ hintPage (plan k) q (pagesOf labels links g)
@@ -60,26 +68,59 @@ module _ (k : Shape) (labels links : List ℕ) (g : Gather) (q : ℕ) where
   pub queued-joined : Queued labels links g → g .tail < length links → Queued (set labels q (k .new)) (set links (g .tail) q) (joined g)
   queued-joined Q t = record { each = rw (length-set, length-set) (Q .each); tail = rw length-set (omega arith) }
 
+-- ---- one hint word: its own page, then that of the word before
+
+module _ (K : Plan) (P lo hi w : ℕ) (s : Pages) where
+  pub word-safe : SafeHints K (pagesOfHint P lo hi w) s → SafeHint K s
+  unfolding SafeHints pagesOfHint
+  word-safe S = S .0
+
+  module _ (own : ℕ) (t : Pages) (o : own ≡ pageNamed P lo hi w) (e : t ≡ hintPage K own s) where
+    pub before-safe : SafeHints K (pagesOfHint P lo hi w) s → SafeHint K t
+    unfolding SafeHints pagesOfHint
+    before-safe S = rw (e, o) (S .1 .0)
+
+    pub word-is : (before : ℕ) (u : Pages) → before ≡ pageNamedBefore P lo hi w → u ≡ hintPage K before t → u ≡ hintPages K (pagesOfHint P lo hi w) s
+    unfolding hintPages pagesOfHint
+    word-is before u b f = f ∙ rw (e, o, b)
+
 -- ---- the hint words in order: what is left to do from the i-th on gives what there was to do at first
+
+-- what there is to do with the pages of one word, and then with the rest
+pub hints-both : (K : Plan) (gs rest : List ℕ) (s : Pages) → hintPages K (gs ++ rest) s ≡ hintPages K rest (hintPages K gs s)
+unfolding hintPages
+hints-both K [] rest s = refl
+hints-both K (g ∷ gs) rest s = hints-both K gs rest (hintPage K g s)
+
+safe-both : (K : Plan) (gs rest : List ℕ) (s : Pages) → SafeHints K (gs ++ rest) s → SafeHints K gs s × SafeHints K rest (hintPages K gs s)
+unfolding hintPages SafeHints
+safe-both K [] rest s S = (tt, S)
+safe-both K (g ∷ gs) rest s S = let (a, b) = safe-both K gs rest (hintPage K g s) (S .1) in ((S .0, a), b)
 
 module _ (K : Plan) (P lo hi : ℕ) (ws : List ℕ) (i : ℕ) where
   pub hints-end : (s goal : Pages) → length ws ≤ i → hintPages K (pagesNamed P lo hi (drop i ws)) s ≡ goal → s ≡ goal
   unfolding hintPages pagesNamed
   hints-end s goal h e = rw (drop-of-length-le ws h) at e
 
-  module _ (h : i < length ws) where
-    pub hints-safe : (s : Pages) → SafeHints K (pagesNamed P lo hi (drop i ws)) s → SafeHint K s
-    unfolding SafeHints pagesNamed
-    hints-safe s e = (rw (drop-cons ws i 0 h) at e) .0
+  module _ (h : i < length ws) (s : Pages) where
+    -- the pages of this word, then those of the words after it
+    split : pagesNamed P lo hi (drop i ws) ≡ pagesOfHint P lo hi (at ws i) ++ pagesNamed P lo hi (drop (i + 1) ws)
+    unfolding pagesNamed
+    split = rw (add-one, drop-cons ws i 0 h)
 
-    module _ (s t : Pages) (q : t ≡ hintPage K (pageNamed P lo hi (at ws i)) s) where
+    parts : SafeHints K (pagesNamed P lo hi (drop i ws)) s
+        → SafeHints K (pagesOfHint P lo hi (at ws i)) s × SafeHints K (pagesNamed P lo hi (drop (i + 1) ws)) (hintPages K (pagesOfHint P lo hi (at ws i)) s)
+    parts e = safe-both K (pagesOfHint P lo hi (at ws i)) (pagesNamed P lo hi (drop (i + 1) ws)) s (rw split at e)
+
+    pub hints-safe : SafeHints K (pagesNamed P lo hi (drop i ws)) s → SafeHints K (pagesOfHint P lo hi (at ws i)) s
+    hints-safe e = parts e .0
+
+    module _ (t : Pages) (q : t ≡ hintPages K (pagesOfHint P lo hi (at ws i)) s) where
       pub hints-next : SafeHints K (pagesNamed P lo hi (drop i ws)) s → SafeHints K (pagesNamed P lo hi (drop (i + 1) ws)) t
-      unfolding SafeHints pagesNamed
-      hints-next e = rw (q, add-one) ((rw (drop-cons ws i 0 h) at e) .1)
+      hints-next e = rw q (parts e .1)
 
       pub hints-turn : (goal : Pages) → hintPages K (pagesNamed P lo hi (drop i ws)) s ≡ goal → hintPages K (pagesNamed P lo hi (drop (i + 1) ws)) t ≡ goal
-      unfolding hintPages pagesNamed
-      hints-turn goal e = rw (q, add-one) (rw (drop-cons ws i 0 h) at e)
+      hints-turn goal e = rw q (sym (hints-both K (pagesOfHint P lo hi (at ws i)) (pagesNamed P lo hi (drop (i + 1) ws)) s) ∙ (rw split at e))
 
 -- ---- the cursor
 

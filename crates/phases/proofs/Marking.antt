@@ -1,43 +1,53 @@
 -- Laws of the marks: pages that hints name are marked one by one, then those in use without a mark are counted.
 use mathlib.Core.Path.{_≡_, refl, sym, ap, _∙_}
 use mathlib.Core.Bool.{Bool, true, false, not, _&&_, _||_, or-true, or-false}
-use mathlib.Core.List.{List}
+use mathlib.Core.List.{List, _∷_}
 use Prim.Native.Nat.{ℕ, zero, suc, _+_, _≤_, _<_}
 use native.Mathlib.Omega.{arith}
 use native.Mathlib.Numerals.{add-one}
 use native.Mathlib.Decide.{decLt, ℕ-discrete}
-use lib.ListN.{length, getD, set, drop, replicate, drop-of-length-le, length-replicate, getD-replicate}
+use lib.ListN.{length, getD, set, drop, replicate, length-set, drop-of-length-le, length-replicate, getD-replicate}
 use lib.Seq.{drop-cons, getD-set-same, getD-set-other}
 use lib.Dec.{eqb}
 use borrow.Author.Tests.{eq-eqb, ne-eqb}
 use Rattle.rules.specs.Ranges.{at, block, has, count}
-use Rattle.rules.specs.Pages.{pageNamed, pagesNamed, isFree, pagesUnhinted}
+use Rattle.rules.specs.Pages.{pageNamed, pageNamedBefore, pagesOfHint, pagesNamed, isFree, pagesUnhinted}
 use Rattle.phases.specs.Code.{unmarked}
 use Rattle.laws.specs.Lists.{count-past, count-none, count-yes, count-no}
 use Rattle.laws.specs.FreePages.{free-past}
 use mathlib.Core.Logic.{_⊎_, inl, inr}
 
--- ---- the marks, in tail form: with the words from the i-th on they say what they said at first with all
+-- ---- the marks, in tail form: with the pages that are left they say what they said at first with all
+
+-- one page is marked
+mark-one : (rest : List ℕ) (g n : ℕ) (marks : List Bool) (goal : Bool) → g < length marks
+    → (getD marks g false || has g (n ∷ rest)) ≡ goal → (getD (set marks n true) g false || has g rest) ≡ goal
+unfolding has
+mark-one rest g n marks goal l = go (ℕ-discrete g n)
+  where
+    go : Dec (g ≡ n) → (getD marks g false || (eqb g n || has g rest)) ≡ goal → (getD (set marks n true) g false || has g rest) ≡ goal
+    go (yes d) b =
+        let s : getD (set marks n true) g false ≡ true = rw d (getD-set-same marks n true false (rw d at l)) in
+        let t : true ≡ goal = (rw (eq-eqb g n d, or-true) at b) in
+        rw s t
+    go (no d) b = rw (getD-set-other marks n g true false d) (rw (ne-eqb g n d) at b)
 
 module _ (P lo hi : ℕ) (ws : List ℕ) (i g : ℕ) (marks : List Bool) where
   pub marks-end : (goal : Bool) → length ws ≤ i → (getD marks g false || has g (pagesNamed P lo hi (drop i ws))) ≡ goal → getD marks g false ≡ goal
   unfolding pagesNamed has
   marks-end goal h e = sym (or-false (getD marks g false)) ∙ (rw (drop-of-length-le ws h) at e)
 
-  pub marks-turn : (goal : Bool) (n : ℕ) → i < length ws → g < length marks → n ≡ pageNamed P lo hi (at ws i)
-      → (getD marks g false || has g (pagesNamed P lo hi (drop i ws))) ≡ goal → (getD (set marks n true) g false || has g (pagesNamed P lo hi (drop (i + 1) ws))) ≡ goal
-  unfolding pagesNamed has
-  marks-turn goal n h l q e =
-      let a : (getD marks g false || (eqb g (pageNamed P lo hi (at ws i)) || has g (pagesNamed P lo hi (drop (suc i) ws)))) ≡ goal = rw (drop-cons ws i 0 h) at e in
-      rw add-one (go (ℕ-discrete g n) (rw (← q) at a))
-    where
-      go : Dec (g ≡ n) → (getD marks g false || (eqb g n || has g (pagesNamed P lo hi (drop (suc i) ws)))) ≡ goal
-          → (getD (set marks n true) g false || has g (pagesNamed P lo hi (drop (suc i) ws))) ≡ goal
-      go (yes d) b =
-          let s : getD (set marks n true) g false ≡ true = rw d (getD-set-same marks n true false (rw d at l)) in
-          let t : true ≡ goal = (rw (eq-eqb g n d, or-true) at b) in
-          rw s t
-      go (no d) b = rw (getD-set-other marks n g true false d) (rw (ne-eqb g n d) at b)
+  -- the two pages of one word
+  pub marks-turn : (goal : Bool) (own before : ℕ) → i < length ws → g < length marks
+      → own ≡ pageNamed P lo hi (at ws i) → before ≡ pageNamedBefore P lo hi (at ws i)
+      → (getD marks g false || has g (pagesNamed P lo hi (drop i ws))) ≡ goal
+      → (getD (set (set marks own true) before true) g false || has g (pagesNamed P lo hi (drop (i + 1) ws))) ≡ goal
+  unfolding pagesNamed pagesOfHint
+  marks-turn goal own before h l o b e =
+      let rest : List ℕ = pagesNamed P lo hi (drop (suc i) ws) in
+      rw add-one
+      (mark-one rest g before (set marks own true) goal (rw length-set l)
+      (mark-one (before ∷ rest) g own marks goal l (rw (o, b) (rw (drop-cons ws i 0 h) at e))))
 
 -- ---- the count
 

@@ -4,21 +4,22 @@ use crate::Shape;
 use layout::pages;
 use layout::record;
 ghost use mathlib.Core.Path.{_≡_};
-ghost use Rattle.rules.specs.Pages.{pageNamed, pagesNamed};
+ghost use Prim.Native.Nat.{_<_};
+ghost use Rattle.rules.specs.Pages.{pagesOfHint, pagesNamed};
 ghost use Rattle.rules.specs.Collection.{hintPage, hintPages};
 ghost use Rattle.laws.specs.Safe.{SafeHint, SafeHints};
 ghost use Rattle.phases.specs.Code.{plan, pagesOf, Queued};
 
-// One hint word. A word that names no page gives page 0, which never has the old label; nor has a page
-// that was hinted before.
-pub fn hint_word(labels: &mut [u16], links: &mut [u16], k: Shape, g: Gather, word: u32) -> Gather
+// Page `page`, which a hint names, or 0 for none: page 0 never has the old label, nor has a page that was hinted
+// before.
+fn hint_page(labels: &mut [u16], links: &mut [u16], k: Shape, g: Gather, page: u32) -> Gather
     requires { ⌜ SafeHint (plan k) (pagesOf (now labels) (now links) g) ⌝ }
     requires { ⌜ Queued (now labels) (now links) g ⌝ }
-    ensures { λ r. ⌜ pagesOf (now (labels .exit)) (now (links .exit)) r ≡ hintPage (plan k) (pageNamed (k .page) 1 (k .pages) word) (pagesOf (now (labels .entry)) (now (links .entry)) g) ⌝ }
+    requires { ⌜ page < k .pages ⌝ }
+    ensures { λ r. ⌜ pagesOf (now (labels .exit)) (now (links .exit)) r ≡ hintPage (plan k) page (pagesOf (now (labels .entry)) (now (links .entry)) g) ⌝ }
     ensures { λ r. ⌜ Queued (now (labels .exit)) (now (links .exit)) r × (r .cursor ≡ g .cursor) ⌝ }
     ensures { λ r. ⌜ (r .objects ≡ g .objects) × (r .words ≡ g .words) ⌝ }
 {
-    let page = pages::page_named(k.page, 1, k.pages, word);
     let at = page as usize;
     if record::label_at(labels, at) != k.old {
         return g;
@@ -27,6 +28,20 @@ pub fn hint_word(labels: &mut [u16], links: &mut [u16], k: Shape, g: Gather, wor
     let tail = g.tail as usize;
     links[tail] = page as u16;
     g.joined()
+}
+
+// One hint word: its own page first, then that of the word before, which is another one where the word begins a page.
+pub fn hint_word(labels: &mut [u16], links: &mut [u16], k: Shape, g: Gather, word: u32) -> Gather
+    requires { ⌜ SafeHints (plan k) (pagesOfHint (k .page) 1 (k .pages) word) (pagesOf (now labels) (now links) g) ⌝ }
+    requires { ⌜ Queued (now labels) (now links) g ⌝ }
+    ensures { λ r. ⌜ pagesOf (now (labels .exit)) (now (links .exit)) r ≡ hintPages (plan k) (pagesOfHint (k .page) 1 (k .pages) word) (pagesOf (now (labels .entry)) (now (links .entry)) g) ⌝ }
+    ensures { λ r. ⌜ Queued (now (labels .exit)) (now (links .exit)) r × (r .cursor ≡ g .cursor) ⌝ }
+    ensures { λ r. ⌜ (r .objects ≡ g .objects) × (r .words ≡ g .words) ⌝ }
+{
+    let own = pages::page_named(k.page, 1, k.pages, word);
+    let first = hint_page(labels, links, k, g, own);
+    let before = pages::page_named_before(k.page, 1, k.pages, word);
+    hint_page(labels, links, k, first, before)
 }
 
 // Each hint word, in order. The words stay as they are.

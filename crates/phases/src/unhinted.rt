@@ -11,15 +11,18 @@ ghost use Rattle.rules.specs.Ranges.{block, has, count};
 ghost use Rattle.rules.specs.Pages.{pagesNamed, pagesUnhinted};
 ghost use Rattle.phases.specs.Code.{unmarked};
 
-// The pages that the hint words name are marked. A word that names none marks page 0, which no one counts.
+// The pages that the hint words name are marked, two by each word. A word that names none marks page 0, which no one
+// counts.
 fn mark_named(marks: &mut [bool; 4096], hints: &[u32], page: u32, pages: u32)
     requires { ⌜ pages ≤ 4096 ⌝ }
     ensures { λ _. ⌜ ((g : ℕ) → g < length (now (marks .entry)) → getD (now (marks .exit)) g false ≡ (getD (now (marks .entry)) g false || has g (pagesNamed page 1 pages (now (hints .entry))))) ⌝ }
 {
     let mut i = 0;
     while i < hints.len() {
-        let g = pages::page_named(page, 1, pages, hints[i]) as usize;
-        marks[g] = true;
+        let own = pages::page_named(page, 1, pages, hints[i]) as usize;
+        marks[own] = true;
+        let before = pages::page_named_before(page, 1, pages, hints[i]) as usize;
+        marks[before] = true;
         i += 1;
     }
 }

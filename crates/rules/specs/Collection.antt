@@ -47,8 +47,9 @@ pub record State : Type 0 where
   pub words : ℕ
   pub moves : List Move
 
--- ---- 1. "Each hint word in order names its page if that is 1 to T-1 and current. The page gets the new label and joins the
--- queue, once." Page g is named; page 0, which stands for none, never has the old label.
+-- ---- 1. "Each hint word in order names its page if that is 1 to T-1 and current", and by Q-1 that of the word before
+-- (pagesNamed of Pages.antt). "The page gets the new label and joins the queue, once." Page g is named; page 0, which stands for
+-- none, never has the old label.
 unfoldable pub hintPage : Plan → ℕ → Pages → Pages
 hintPage k g s =
     cond (eqb (at (s .labels) g) (k .old))

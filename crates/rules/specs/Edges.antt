@@ -1,4 +1,4 @@
--- The starred edges of document 01: one table, and one theorem that antt computes. The program `edges` runs the same on the
+-- The starred edges of document 01, and those of Q-1: one table, and one theorem that antt computes. The program `edges` runs the same on the
 -- code.
 use mathlib.Core.Path.{_≡_, refl, ap, _∙_, sym}
 use mathlib.Core.Logic.{_⊎_, inl, inr}
@@ -8,9 +8,9 @@ use Prim.Native.Nat.{ℕ}
 use lib.Dec.{eqb}
 use borrow.Author.Tests.{eqb-true}
 use Rattle.rules.specs.Tests.{and-left, and-right}
-use Rattle.rules.specs.Ranges.{from, block, has, count, first}
+use Rattle.rules.specs.Ranges.{at, from, block, has, count, first}
 use Rattle.rules.specs.Header.{headerOf}
-use Rattle.rules.specs.Pages.{isPageSize, pageAtStart, isShape, pageNamed, isFree, lowestFree, pagesUsed, pagesNeeded, pageNamedToC, pagesNeededToC}
+use Rattle.rules.specs.Pages.{isPageSize, pageAtStart, isShape, pageNamed, pageNamedBefore, pagesOfHint, isFree, lowestFree, pagesUsed, pagesNeeded, pageNamedToC, pageNamedBeforeToC, pagesNeededToC}
 use Rattle.rules.specs.Lent.{Lent, isLaidOut, isLabel, isOpen, isValid}
 use Rattle.rules.specs.Calls.{refused, accepted, start, withObject, allocate}
 use Rattle.rules.specs.Examples.{fresh}
@@ -39,6 +39,12 @@ edges =
     ∷ edge (allocate fresh 3 4 .refusal) 2 ∷ edge (allocate used2 3 4 .refusal) 2
     -- "P 8, T 6: word 7 names none, 8 names page 1, 47 page 5, 48 none."
     ∷ edge (pageNamedToC 7 8 6) 0 ∷ edge (pageNamedToC 8 8 6) 1 ∷ edge (pageNamedToC 47 8 6) 5 ∷ edge (pageNamedToC 48 8 6) 0
+    -- Q-1: "With P 8 and T 6, word 48 now names page 5." Word 0 names none, word 8 page 1 only, and a word at a boundary both
+    -- pages, its own first.
+    ∷ edge (at (pagesOfHint 8 1 6 48) 0) 0 ∷ edge (at (pagesOfHint 8 1 6 48) 1) 5 ∷ edge (pageNamedBeforeToC 48 8 6) 5
+    ∷ edge (at (pagesOfHint 8 1 6 0) 0) 0 ∷ edge (at (pagesOfHint 8 1 6 0) 1) 0 ∷ edge (pageNamedBeforeToC 0 8 6) 0
+    ∷ edge (at (pagesOfHint 8 1 6 8) 0) 1 ∷ edge (at (pagesOfHint 8 1 6 8) 1) 0 ∷ edge (pageNamedBeforeToC 8 8 6) 0
+    ∷ edge (at (pagesOfHint 8 1 6 16) 0) 2 ∷ edge (at (pagesOfHint 8 1 6 16) 1) 1 ∷ edge (pageNamedBeforeToC 16 8 6) 1
     -- "Pages needed: k' 0 gives 0, 1 gives 1, 2 gives 3."
     ∷ edge (pagesNeededToC 0) 0 ∷ edge (pagesNeededToC 1) 1 ∷ edge (pagesNeededToC 2) 3
     -- "N 5, k 1: a new page is given. N 5, k 2: refused 3."
@@ -50,7 +56,7 @@ hold [] = true
 hold (e ∷ es) = eqb (e .asked) (e .answer) && hold es
 
 computed : hold edges ≡ true
-unfolding hold edges used1 used2 fresh from block has count first headerOf isPageSize pageAtStart isShape pageNamed isFree lowestFree pagesUsed pagesNeeded pageNamedToC pagesNeededToC isLaidOut isLabel isOpen isValid refused accepted start withObject allocate
+unfolding hold edges used1 used2 fresh from block has count first headerOf isPageSize pageAtStart isShape pageNamed pageNamedBefore pagesOfHint isFree lowestFree pagesUsed pagesNeeded pageNamedToC pageNamedBeforeToC pagesNeededToC isLaidOut isLabel isOpen isValid refused accepted start withObject allocate
 computed = refl
 
 row : (es : List Edge) → hold es ≡ true → (e : Edge) → List·Memᴰ e es → e .asked ≡ e .answer

@@ -8,7 +8,7 @@ use lib.ListN.{take, drop, replicate}
 use Rattle.rules.specs.declared.Found.the-variants.{Start, Inside, Nothing}
 use Rattle.rules.specs.Ranges.{at, from, block, each, has, count, first}
 use Rattle.rules.specs.Header.{headerOf, sizeOf, refsOf, isHeader}
-use Rattle.rules.specs.Pages.{isPageSize, pageAtStart, isShape, pageNamed, pagesNamed, isFree, lowestFree, pagesUsed, pagesUnhinted, pagesNeeded, otherLabel}
+use Rattle.rules.specs.Pages.{isPageSize, pageAtStart, isShape, pageNamed, pageNamedBefore, pagesOfHint, pagesNamed, isFree, lowestFree, pagesUsed, pagesUnhinted, pagesNeeded, otherLabel}
 use Rattle.rules.specs.Lent.{Lent, isLaidOut, isLabel, isOpen, isValid}
 use Rattle.rules.specs.Walk.{walk, behind, starts, stop, isInUse, isStart, isReference, landing, lookUp}
 use Rattle.rules.specs.Sound.{isBlank, refsGood, isUsedSound, isPageSound, isFillSound, isSound}
@@ -47,6 +47,14 @@ itself = store (store (allocate fresh 2 1 .lent) 8 0 8 .lent) 8 1 8 .lent
 -- page 1 is full, with a reference to an object on page 2
 unfoldable across : Lent
 across = store (allocate (allocate fresh 7 1 .lent) 1 0 .lent) 8 0 16 .lent
+
+-- P 8, T 12: pages 1 and 2 are full, each with a reference to an object on page 3; word 16 is where the first ends and the
+-- second begins
+unfoldable boundary : Lent
+boundary =
+    let started = start (record { heap = replicate 96 7; labels = replicate 12 7; links = replicate 12 7; rec = fresh .rec }) 8 12 .lent in
+    let made = allocate (allocate (allocate (allocate started 7 1 .lent) 7 1 .lent) 2 0 .lent) 2 0 .lent in
+    store (store made 8 0 24 .lent) 16 0 27 .lent
 
 record Examples : Type 0 where
   -- header words: d 1 and p 1 with just enough room; p = n, n = 0, an even word, too little room
@@ -95,12 +103,18 @@ record Examples : Type 0 where
   -- a hinted page stays, and its reference follows the copy
   hinted : collect across [] (9 ∷ []) .lent .labels ≡ 0 ∷ 2 ∷ 0 ∷ 2 ∷ 0 ∷ 0 ∷ []
   hinted-reference : at (collect across [] (9 ∷ []) .lent .heap) 9 ≡ 24
+  -- Q-1: word 48, past the last page, keeps page 5; without it there would be no room
+  past-the-end : collect (record8 .lent) roots8 (48 ∷ 34 ∷ []) .hinted ≡ 2
+  -- a word at a boundary keeps both pages, its own first: so what page 2 refers to is copied first
+  both : collect boundary [] (16 ∷ []) .lent .labels ≡ 0 ∷ 2 ∷ 2 ∷ 0 ∷ 2 ∷ 0 ∷ 0 ∷ 0 ∷ 0 ∷ 0 ∷ 0 ∷ 0 ∷ []
+  own-first : at (collect boundary [] (16 ∷ []) .lent .heap) 17 ≡ 32
+  then-before : at (collect boundary [] (16 ∷ []) .lent .heap) 9 ≡ 35
   -- unsound heaps and bad roots are refused: a stray word on a free page, a root inside an object
   stray : collect (record { heap = replicate 48 1; labels = fresh .labels; links = fresh .links; rec = fresh .rec }) [] [] .refusal ≡ 7
   root : collect across (9 ∷ []) [] .refusal ≡ 6
 
 examples : Examples
-unfolding from block each has count first headerOf sizeOf refsOf isHeader isPageSize pageAtStart isShape pageNamed pagesNamed isFree lowestFree pagesUsed pagesUnhinted pagesNeeded otherLabel isLaidOut isLabel isOpen isValid walk behind starts stop isInUse isStart isReference landing lookUp isBlank refsGood isUsedSound isPageSound isFillSound isSound refused accepted start withObject allocate load mayStore store hintPage hintPages takePage withRoom top put copyObject forward forwardRoots sweepReference sweepReferences sweepPage sweepQueue freedLabels freedHeap planOf begun afterHints afterRoots afterSweep collection unhinted hasRoom refusalOfCollect refusedCollect acceptedCollect collect fresh small after4 after6 record8 roots8 record14 itself across
+unfolding from block each has count first headerOf sizeOf refsOf isHeader isPageSize pageAtStart isShape pageNamed pageNamedBefore pagesOfHint pagesNamed isFree lowestFree pagesUsed pagesUnhinted pagesNeeded otherLabel isLaidOut isLabel isOpen isValid walk behind starts stop isInUse isStart isReference landing lookUp isBlank refsGood isUsedSound isPageSound isFillSound isSound refused accepted start withObject allocate load mayStore store hintPage hintPages takePage withRoom top put copyObject forward forwardRoots sweepReference sweepReferences sweepPage sweepQueue freedLabels freedHeap planOf begun afterHints afterRoots afterSweep collection unhinted hasRoom refusalOfCollect refusedCollect acceptedCollect collect fresh small after4 after6 record8 roots8 record14 itself across boundary
 examples = record {
   header = refl;
   header-refs = refl;
@@ -137,6 +151,10 @@ examples = record {
   self = refl;
   hinted = refl;
   hinted-reference = refl;
+  past-the-end = refl;
+  both = refl;
+  own-first = refl;
+  then-before = refl;
   stray = refl;
   root = refl;
 }

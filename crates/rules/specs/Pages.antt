@@ -1,6 +1,6 @@
 -- Pages: their size and number, which one a word names, which are free, how many a collection may need.
 use mathlib.Core.Bool.{Bool, cond, not, _&&_}
-use mathlib.Core.List.{List, [], _∷_}
+use mathlib.Core.List.{List, [], _∷_, _++_}
 use Prim.Native.Nat.{ℕ, _*_, _-_, _/_}
 use lib.Dec.{eqb, leb, ltb}
 use Rattle.rules.specs.Ranges.{at, block, has, count, first}
@@ -25,10 +25,18 @@ isShape P T = isPageSize P && (leb 3 T && leb T 4096)
 unfoldable pub pageNamed : ℕ → ℕ → ℕ → ℕ → ℕ
 pageNamed P lo hi w = cond (leb lo (w / P) && ltb (w / P) hi) (w / P) 0
 
--- the pages that hint words name, in order; a word that names none gives 0
+-- Q-1: "if w is at least 1, the page of w - 1", under the same conditions; 0 for none
+unfoldable pub pageNamedBefore : ℕ → ℕ → ℕ → ℕ → ℕ
+pageNamedBefore P lo hi w = cond (leb 1 w) (pageNamed P lo hi (w - 1)) 0
+
+-- Q-1: "A hint word w names its own page first and then, if w is at least 1, the page of w - 1"
+unfoldable pub pagesOfHint : ℕ → ℕ → ℕ → ℕ → List ℕ
+pagesOfHint P lo hi w = pageNamed P lo hi w ∷ pageNamedBefore P lo hi w ∷ []
+
+-- the pages that hint words name, each word in order; 0 stands where none is named
 unfoldable pub pagesNamed : ℕ → ℕ → ℕ → List ℕ → List ℕ
 pagesNamed P lo hi [] = []
-pagesNamed P lo hi (w ∷ ws) = pageNamed P lo hi w ∷ pagesNamed P lo hi ws
+pagesNamed P lo hi (w ∷ ws) = pagesOfHint P lo hi w ++ pagesNamed P lo hi ws
 
 -- "Label 0 is free."
 unfoldable pub isFree : List ℕ → ℕ → Bool
@@ -54,11 +62,15 @@ pagesNeeded k′ = cond (eqb k′ 0) 0 (2 * k′ - 1)
 unfoldable pub otherLabel : ℕ → ℕ
 otherLabel label = cond (eqb label 1) 2 1
 
--- The two calls on plain numbers, for C. "The first takes word, P and T and looks at no label; bad P or T gives 0 ..
+-- The three calls on plain numbers, for C. "The first takes word, P and T and looks at no label; bad P or T gives 0 ..
 -- Here P = 0 is bad."
 unfoldable pub pageNamedToC : ℕ → ℕ → ℕ → ℕ
 pageNamedToC w P T = cond (isShape P T) (pageNamed P 1 T w) 0
 
--- "The second takes k'; above 4,095 it gives 4,294,967,295."
+-- Q-1: "the C call for naming a page answers for w alone, and a second one for w - 1 (0 at w = 0)"
+unfoldable pub pageNamedBeforeToC : ℕ → ℕ → ℕ → ℕ
+pageNamedBeforeToC w P T = cond (isShape P T) (pageNamedBefore P 1 T w) 0
+
+-- pages needed: "The second takes k'; above 4,095 it gives 4,294,967,295."
 unfoldable pub pagesNeededToC : ℕ → ℕ
 pagesNeededToC k′ = cond (ltb 4095 k′) 4294967295 (pagesNeeded k′)

@@ -4,7 +4,7 @@ use rules::Answer;
 use rules::Collected;
 use rules::Record;
 ghost use mathlib.Core.Path.{_≡_};
-ghost use Rattle.rules.specs.Pages.{pageNamedToC, pagesNeededToC};
+ghost use Rattle.rules.specs.Pages.{pageNamedToC, pageNamedBeforeToC, pagesNeededToC};
 ghost use Rattle.rules.specs.Lent.{lent};
 ghost use Rattle.rules.specs.Calls.{outcome, start, allocate, load, store};
 ghost use Rattle.rules.specs.Collect.{collectOutcome, collect};
@@ -85,12 +85,20 @@ pub extern "C" fn fouterpin_collect(
     collector::collect(heap, labels, links, r, roots, hints)
 }
 
-// Which page a word names, 0 for none. Bad P or T gives 0.
+// Which page a word names by itself, 0 for none. Bad P or T gives 0.
 #[no_mangle]
 pub extern "C" fn fouterpin_page_named(word: u32, page: u32, pages: u32) -> u32
     ensures { λ r. ⌜ r ≡ pageNamedToC word page pages ⌝ }
 {
     layout::pages::page_named_checked(word, page, pages)
+}
+
+// Which page the word before names, 0 for none; there is none before word 0. A hint word names this one too, after its own.
+#[no_mangle]
+pub extern "C" fn fouterpin_page_named_before(word: u32, page: u32, pages: u32) -> u32
+    ensures { λ r. ⌜ r ≡ pageNamedBeforeToC word page pages ⌝ }
+{
+    layout::pages::page_named_before_checked(word, page, pages)
 }
 
 // How many pages a collection may need, where no hint names `unhinted` of the pages in use.

@@ -6,7 +6,7 @@ use Prim.Native.Nat.{ℕ}
 use lib.ListN.{take}
 use Rattle.rules.specs.Ranges.{from, block, each, has, count, first}
 use Rattle.rules.specs.Header.{headerOf, sizeOf, refsOf, isHeader}
-use Rattle.rules.specs.Pages.{isPageSize, pageAtStart, isShape, pageNamed, pagesNamed, isFree, lowestFree, pagesUsed, pagesUnhinted, pagesNeeded, otherLabel}
+use Rattle.rules.specs.Pages.{isPageSize, pageAtStart, isShape, pageNamed, pageNamedBefore, pagesOfHint, pagesNamed, isFree, lowestFree, pagesUsed, pagesUnhinted, pagesNeeded, otherLabel}
 use Rattle.rules.specs.Lent.{isLaidOut, isLabel, isOpen, isValid}
 use Rattle.rules.specs.Walk.{walk, behind, starts, stop, isInUse, isStart, isReference, landing, lookUp}
 use Rattle.rules.specs.Sound.{isBlank, refsGood, isUsedSound, isPageSound, isFillSound, isSound}
@@ -70,7 +70,7 @@ record Examples : Type 0 where
   seven : transcript (take 7 input) ≡ 48 ∷ 32 ∷ 57 ∷ 32 ∷ 48 ∷ 10 ∷ 101 ∷ 110 ∷ 100 ∷ 32 ∷ 49 ∷ 32 ∷ 48 ∷ 32 ∷ 49 ∷ 10 ∷ []
 
 examples : Examples
-unfolding from block each has count first headerOf sizeOf refsOf isHeader isPageSize pageAtStart isShape pageNamed pagesNamed isFree lowestFree pagesUsed pagesUnhinted pagesNeeded otherLabel isLaidOut isLabel isOpen isValid walk behind starts stop isInUse isStart isReference landing lookUp isBlank refsGood isUsedSound isPageSound isFillSound isSound calls.refused calls.accepted start withObject allocate load mayStore store hintPage hintPages takePage withRoom top put copyObject forward forwardRoots sweepReference sweepReferences sweepPage sweepQueue freedLabels freedHeap planOf begun afterHints afterRoots afterSweep collection unhinted hasRoom refusalOfCollect refusedCollect acceptedCollect collect decode before refused accepted called collected blank perform step digits number line noted ending rest run transcript input output
+unfolding from block each has count first headerOf sizeOf refsOf isHeader isPageSize pageAtStart isShape pageNamed pageNamedBefore pagesOfHint pagesNamed isFree lowestFree pagesUsed pagesUnhinted pagesNeeded otherLabel isLaidOut isLabel isOpen isValid walk behind starts stop isInUse isStart isReference landing lookUp isBlank refsGood isUsedSound isPageSound isFillSound isSound calls.refused calls.accepted start withObject allocate load mayStore store hintPage hintPages takePage withRoom top put copyObject forward forwardRoots sweepReference sweepReferences sweepPage sweepQueue freedLabels freedHeap planOf begun afterHints afterRoots afterSweep collection unhinted hasRoom refusalOfCollect refusedCollect acceptedCollect collect decode before refused accepted called collected blank perform step digits number line noted ending rest run transcript input output
 examples = record {
   document01 = refl;
   empty = refl;

@@ -6,7 +6,7 @@ use native.Mathlib.Omega.{arith}
 use lib.ListN.{length, getD, drop, length-set}
 use Rattle.rules.specs.Ranges.{at, has}
 use Rattle.rules.specs.Pages.{pagesNamed}
-use Rattle.phases.proofs.Joining.{named-within}
+use Rattle.phases.proofs.Joining.{named-within, before-within}
 use Rattle.phases.proofs.Marking.{marks-end, marks-turn}
 use borrow.Author.Needs.{needs}
 use Rattle.phases.proofs.unhinted.mark_named.Statement.{statement}
@@ -31,13 +31,28 @@ shared-slice-read-page-named c = search needs
 page-named-requires : tie.Need-page-named-requires Inv-loop μ-loop
 page-named-requires c κs = search needs
 
-cast-g : tie.Need-cast-g Inv-loop μ-loop
-cast-g c = search needs
+cast-own : tie.Need-cast-own Inv-loop μ-loop
+cast-own c = search needs
 
 element-write-marks : tie.Need-element-write-marks Inv-loop μ-loop
 element-write-marks c =
-    let args = c .before .before .before .before .before .args in
-    omega (arith, c .page-named .ensures, named-within (args .page) (args .pages) 4096 (at (args .hints .now) (c .before .before .before .loop .i)) (c .before .before .before .before .before .pre) (omega arith))
+    omega (arith, c .page-named .ensures, named-within (c .before .before .before .before .before .args .page) (c .before .before .before .before .before .args .pages) 4096 (at (c .before .before .before .before .before .args .hints .now) (c .before .before .before .loop .i)) (c .before .before .before .before .before .pre) (omega arith))
+
+mul-page-named-before : tie.Need-mul-page-named-before Inv-loop μ-loop
+mul-page-named-before c = search needs
+
+shared-slice-read-page-named-before : tie.Need-shared-slice-read-page-named-before Inv-loop μ-loop
+shared-slice-read-page-named-before c = search needs
+
+page-named-before-requires : tie.Need-page-named-before-requires Inv-loop μ-loop
+page-named-before-requires c κs = search needs
+
+cast-before : tie.Need-cast-before Inv-loop μ-loop
+cast-before c = search needs
+
+element-write-marks-2 : tie.Need-element-write-marks-2 Inv-loop μ-loop
+element-write-marks-2 c =
+    omega (arith, c .page-named-before .ensures, before-within (c .before .before .before .before .before .before .before .args .page) (c .before .before .before .before .before .before .before .args .pages) 4096 (at (c .before .before .before .before .before .before .before .args .hints .now) (c .before .before .before .before .before .loop .i)) (c .before .before .before .before .before .before .before .pre) (omega arith))
 
 add-i : tie.Need-add-i Inv-loop μ-loop
 add-i c = search needs
@@ -47,8 +62,7 @@ loop-less c = search needs
 
 loop-again : tie.Need-loop-again Inv-loop μ-loop
 loop-again c =
-    let loop = c .before .before .before .loop in
-    (λ g h. marks-turn _ _ _ _ _ g (loop .marks) _ _ (c .before .before .loop-test .taken) (omega (arith, loop .inv .1)) (c .page-named .ensures) (loop .inv .0 g h), rw length-set (loop .inv .1))
+    (λ g h. marks-turn _ _ _ _ _ g (c .before .before .before .before .before .loop .marks) _ _ _ (c .before .before .before .before .loop-test .taken) (omega (arith, c .before .before .before .before .before .loop .inv .1)) (c .before .before .page-named .ensures) (c .page-named-before .ensures) (c .before .before .before .before .before .loop .inv .0 g h), rw (length-set, length-set) (c .before .before .before .before .before .loop .inv .1))
 
 returns : tie.Need-returns Inv-loop μ-loop
 returns c =
@@ -66,8 +80,13 @@ mark-named-spec =
     mul-page-named
     shared-slice-read-page-named
     page-named-requires
-    cast-g
+    cast-own
     element-write-marks
+    mul-page-named-before
+    shared-slice-read-page-named-before
+    page-named-before-requires
+    cast-before
+    element-write-marks-2
     add-i
     loop-less
     loop-again
