@@ -4,7 +4,7 @@ use mathlib.Core.Logic.{inl, inr, _≢_, _⊎_}
 use mathlib.Core.Bool.{Bool, true, false, cond, _&&_, or-true, and-false}
 use mathlib.Core.List.{List, [], _∷_, map, List·Memᴰ, Memᴰ·cast, Memᴰ·map, Memᴰ·of-map}
 use Prim.Native.Nat.{ℕ, zero-le, _+_, _*_, _-_, _/_, _%_, _≤_, _<_, _^_, suc}
-use native.Mathlib.Nat.{div-zero, mul-add-div-right, div-eq-of-lt, add-zero, div-add-mod', mod-lt, mul-le-mul, mul-le-mul-right, suc-mul}
+use native.Mathlib.Nat.{zero-mod, div-zero, mul-add-div-right, div-eq-of-lt, add-zero, div-add-mod', mod-lt, mul-le-mul, mul-le-mul-right, suc-mul}
 use native.Mathlib.Omega.{arith}
 use types.Run.{OneOf}
 use lib.Dec.{eqb, leb, ltb}
@@ -112,6 +112,16 @@ same-page {P} pos x n i fits h =
 pub first-on-page : {P : ℕ} → 0 < P → (g : ℕ) → g * P / P ≡ g
 first-on-page pos g = simp add-zero at (page-of pos g 0 pos)
 
+-- the word before is on the same page, unless the word begins one
+pub same-before : (P w : ℕ) → w % P ≢ 0 → (w - 1) / P ≡ w / P
+same-before P w h = go (decLt 0 P)
+  where
+    go : Dec (0 < P) → (w - 1) / P ≡ w / P
+    go (yes pos) =
+        let e : w - 1 ≡ w / P * P + (w % P - 1) = omega (arith, split-page P w, h) in
+        ap (λ (k : ℕ). k / P) e ∙ page-of pos (w / P) (w % P - 1) (omega (arith, mod-lt w pos))
+    go (no zero) = let e : P ≡ 0 = omega arith in rw (e, div-zero (w - 1), div-zero w)
+
 -- objects on different pages do not meet
 pub pages-apart : (P x n y m : ℕ) → x % P + n ≤ P → y % P + m ≤ P → x / P ≢ y / P → (x + n ≤ y) ⊎ (y + m ≤ x)
 pages-apart P x n y m fx fy ne = go (decLt (x / P) (y / P))
@@ -151,6 +161,15 @@ module _ (P lo hi w : ℕ) where
   pub before-is : 0 < w → pageNamedBefore P lo hi w ≡ pageNamed P lo hi (w - 1)
   unfolding pageNamedBefore
   before-is h = rw (le-leb 1 w h)
+
+  -- both name one page, unless the word begins one
+  pub before-same : w % P ≢ 0 → pageNamedBefore P lo hi w ≡ pageNamed P lo hi w
+  unfolding pageNamed
+  before-same h = before-is (go (decLt 0 w)) ∙ rw (same-before P w h)
+    where
+      go : Dec (0 < w) → 0 < w
+      go (yes p) = p
+      go (no p) = absurd (h (let z : w ≡ 0 = omega arith in rw (z, zero-mod)))
 
 -- ---- how many a collection may need
 

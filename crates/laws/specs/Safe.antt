@@ -13,8 +13,9 @@ use Rattle.rules.specs.Pages.{pagesNamed, lowestFree}
 use Rattle.rules.specs.Lent.{Lent}
 use Rattle.rules.specs.Collection.{Plan, Pages, State, hintPage, withRoom, top, forward, sweepReference, sweepReferences, sweepPage, begun, afterHints, afterRoots, afterSweep}
 
--- step 1: a named page can join the queue
+-- step 1: a named page can join the queue, and then no longer has the old label
 pub record SafeHint (k : Plan) (s : Pages) : Type 0 where
+  pub new : k .new ≢ k .old
   pub labels : length (s .labels) ≡ k .hi
   pub low : 0 < k .hi
   pub few : k .hi ≤ 4096

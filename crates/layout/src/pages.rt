@@ -1,5 +1,7 @@
 // Pages by number: their size, which one a word names, how many a collection may need.
 ghost use mathlib.Core.Path.{_≡_};
+ghost use Prim.Native.Nat.{_%_};
+ghost use lib.Dec.{eqb};
 ghost use Rattle.rules.specs.Pages.{isPageSize, isShape, pageAtStart, pageNamed, pageNamedBefore, otherLabel, pageNamedToC, pageNamedBeforeToC, pagesNeededToC};
 
 // P is a power of two from 8 to 1,024.
@@ -56,7 +58,17 @@ pub fn page_named_before(page: u32, lo: u32, hi: u32, word: u32) -> u32
     page_named(page, lo, hi, word - 1)
 }
 
-// The same for a native solver, which may ask with any P and T: a bad one names no page.
+// The word begins a page. Elsewhere the word before is on the same page.
+pub fn begins_page(page: u32, word: u32) -> bool
+    ensures { λ r. ⌜ r ≡ eqb (word % page) 0 ⌝ }
+{
+    if page == 0 {
+        return word == 0;
+    }
+    word % page == 0
+}
+
+// Both for a native solver, which may ask with any P and T: a bad one names no page.
 pub fn page_named_checked(word: u32, page: u32, pages: u32) -> u32
     ensures { λ r. ⌜ r ≡ pageNamedToC word page pages ⌝ }
 {

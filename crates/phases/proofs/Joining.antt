@@ -3,23 +3,24 @@ use mathlib.Core.Path.{_≡_, refl, sym, _∙_}
 use mathlib.Core.Logic.{_≢_}
 use mathlib.Core.Bool.{Bool, true, false, cond, _&&_}
 use mathlib.Core.List.{List, [], _∷_, _++_}
-use Prim.Native.Nat.{ℕ, zero, suc, _+_, _-_, _/_, _≤_, _<_}
+use Prim.Native.Nat.{ℕ, zero, suc, _+_, _-_, _/_, _%_, _≤_, _<_}
 use native.Mathlib.Omega.{arith}
 use native.Mathlib.Numerals.{add-one}
 use native.Mathlib.Decide.{ℕ-discrete}
 use lib.ListN.{length, set, take, drop, length-set, length-take, drop-of-length-le}
 use lib.Seq.{drop-cons, take-suc-set, getD-set-same, getD-set-other}
-use lib.Dec.{leb, ltb}
+use lib.Dec.{eqb, leb, ltb}
 use borrow.Author.Tests.{ltb-true, eq-eqb, ne-eqb, le-leb, lt-leb}
 use Rattle.rules.specs.Tests.{and-right}
 use Rattle.rules.specs.Ranges.{at, block, first}
 use Rattle.rules.specs.Pages.{pageNamed, pageNamedBefore, pagesOfHint, pagesNamed, isFree, lowestFree}
 use Rattle.rules.specs.Collection.{Plan, Pages, hintPage, hintPages, takePage, withRoom}
 use Rattle.laws.specs.Lists.{first-here, first-step}
+use Rattle.laws.specs.Pages.{before-same}
 use Rattle.laws.specs.Safe.{SafeHint, SafeHints, SafeTake}
 use Rattle.phases.specs.declared.Gather.{Gather}
 use Rattle.phases.specs.declared.Shape.{Shape}
-use Rattle.phases.specs.Code.{plan, pagesOf, Queued, Tied, joined, taken}
+use Rattle.phases.specs.Code.{plan, pagesOf, hintedOf, Queued, Tied, taken}
 
 -- ---- the queue: links up to the tail
 
@@ -48,27 +49,42 @@ before-within P hi n w few some = go (leb 1 w)
     go true = named-within P hi n (w - 1) few some
     go false = some
 
-module _ (k : Shape) (labels links : List ℕ) (g : Gather) (q : ℕ) where
-  pub hint-not : (at labels q ≡ k .old → ⊥) → pagesOf labels links g ≡ hintPage (plan k) q (pagesOf labels links g)
+-- page q is named, with n pages in the queue
+module _ (k : Shape) (labels links : List ℕ) (n q : ℕ) where
+  pub hint-not : (at labels q ≡ k .old → ⊥) → hintedOf k labels links n ≡ hintPage (plan k) q (hintedOf k labels links n)
   unfolding hintPage
-  hint-not n = rw (ne-eqb (at labels q) (k .old) n)
+  hint-not ne = rw (ne-eqb (at labels q) (k .old) ne)
 
-  pub hint-joins : at labels q ≡ k .old → g .tail < length links
-      → pagesOf (set labels q (k .new)) (set links (g .tail) q) (joined g) ≡ hintPage (plan k) q (pagesOf labels links g)
+  pub hint-joins : at labels q ≡ k .old → n < length links
+      → hintedOf k (set labels q (k .new)) (set links n q) (n + 1) ≡ hintPage (plan k) q (hintedOf k labels links n)
   unfolding hintPage
-  hint-joins e t = rw (eq-eqb (at labels q) (k .old) e, queue-longer links (g .tail) q t)
+  hint-joins e t = rw (eq-eqb (at labels q) (k .old) e, queue-longer links n q t)
 
   -- there is a place in the queue
-  pub hint-fits : SafeHint (plan k) (pagesOf labels links g) → Queued labels links g → at labels q ≡ k .old → (g .tail < length links) × (g .tail < 4096)
+  pub hint-fits : SafeHint (plan k) (hintedOf k labels links n) → Queued labels links n → at labels q ≡ k .old → (n < length links) × (n < 4096)
   hint-fits S Q e =
-      let n : length (take (g .tail) links) ≡ g .tail = queue-length links (g .tail) (Q .tail) in
+      let z : length (take n links) ≡ n = queue-length links n (Q .tail) in
       let s = S .queue q e in
       (omega (arith, S .labels, Q .each), omega (arith, S .few))
 
-  pub queued-joined : Queued labels links g → g .tail < length links → Queued (set labels q (k .new)) (set links (g .tail) q) (joined g)
+  pub queued-joined : Queued labels links n → n < length links → Queued (set labels q (k .new)) (set links n q) (n + 1)
   queued-joined Q t = record { each = rw (length-set, length-set) (Q .each); tail = rw length-set (omega arith) }
 
 -- ---- one hint word: its own page, then that of the word before
+
+-- a page that is named twice joins once
+hint-twice : (K : Plan) (g : ℕ) (s : Pages) → K .new ≢ K .old → g < length (s .labels) → hintPage K g (hintPage K g s) ≡ hintPage K g s
+unfolding hintPage
+hint-twice K g s ne h = go (eqb (at (s .labels) g) (K .old)) refl
+  where
+    once : Bool → Pages
+    once b = cond b (record { labels = set (s .labels) g (K .new); queue = s .queue ++ (g ∷ []); copy = s .copy; fill = s .fill }) s
+
+    go : (b : Bool) → eqb (at (s .labels) g) (K .old) ≡ b
+        → cond (eqb (at (once b .labels) g) (K .old))
+        (record { labels = set (once b .labels) g (K .new); queue = once b .queue ++ (g ∷ []); copy = once b .copy; fill = once b .fill }) (once b) ≡ once b
+    go true e = rw (getD-set-same (s .labels) g (K .new) 0 h, ne-eqb (K .new) (K .old) ne)
+    go false e = rw e
 
 module _ (K : Plan) (P lo hi w : ℕ) (s : Pages) where
   pub word-safe : SafeHints K (pagesOfHint P lo hi w) s → SafeHint K s
@@ -79,6 +95,11 @@ module _ (K : Plan) (P lo hi w : ℕ) (s : Pages) where
     pub before-safe : SafeHints K (pagesOfHint P lo hi w) s → SafeHint K t
     unfolding SafeHints pagesOfHint
     before-safe S = rw (e, o) (S .1 .0)
+
+    -- where the word does not begin a page, there is nothing more to do
+    pub word-once : SafeHints K (pagesOfHint P lo hi w) s → own < length (s .labels) → w % P ≢ 0 → t ≡ hintPages K (pagesOfHint P lo hi w) s
+    unfolding SafeHints hintPages pagesOfHint
+    word-once S h n = e ∙ rw (before-same P lo hi w n, ← o) (sym (hint-twice K own s (S .0 .new) h))
 
     pub word-is : (before : ℕ) (u : Pages) → before ≡ pageNamedBefore P lo hi w → u ≡ hintPage K before t → u ≡ hintPages K (pagesOfHint P lo hi w) s
     unfolding hintPages pagesOfHint

@@ -3,7 +3,7 @@
 use mathlib.Core.Path.{_≡_, sym, ap, _∙_}
 use mathlib.Core.Bool.{Bool, true, false, cond}
 use mathlib.Core.List.{List, []}
-use Prim.Native.Nat.{ℕ, zero-le, _-_, _≤_}
+use Prim.Native.Nat.{ℕ, _-_, _≤_}
 use native.Mathlib.Omega.{arith}
 use lib.ListN.{length, drop, replicate, length-drop}
 use lib.Dec.{eqb}
@@ -16,7 +16,7 @@ use Rattle.laws.specs.Valid.{Layout}
 use Rattle.laws.specs.Safe.{SafeHints, SafeRoots, SafeQueue, SafeRun}
 use Rattle.phases.specs.declared.Gather.{Gather}
 use Rattle.phases.specs.declared.Shape.{Shape}
-use Rattle.phases.specs.Code.{plan, pagesOf, stateOf, rootedOf, Queued, Tied, beginOf, shapeOf, answerOf}
+use Rattle.phases.specs.Code.{plan, pagesOf, hintedOf, stateOf, rootedOf, Queued, Tied, beginOf, shapeOf, answerOf}
 use Rattle.phases.proofs.Joining.{queue-length}
 
 -- the other label is 1 or 2
@@ -40,40 +40,43 @@ unfolding planOf
 plan-is r h l k sh e = rw e
 
 -- the hints' pages before the first step, in the code's terms and in the definition's
-begun-is : (r : Record) (h l k hints : List ℕ) (sh : Shape) (g : Gather) → sh ≡ shapeOf r → g ≡ beginOf r
-    → hintPages (plan sh) (pagesNamed (sh .page) 1 (sh .pages) hints) (pagesOf l k g) ≡ afterHints (planOf (lent h l k r) plainly) (lent h l k r) hints
+begun-is : (r : Record) (h l k hints : List ℕ) (sh : Shape) → sh ≡ shapeOf r
+    → hintPages (plan sh) (pagesNamed (sh .page) 1 (sh .pages) hints) (hintedOf sh l k 0) ≡ afterHints (planOf (lent h l k r) plainly) (lent h l k r) hints
 unfolding planOf begun afterHints
-begun-is r h l k hints sh g e b = rw (e, b)
+begun-is r h l k hints sh e = rw e
 
-pub hints-are-safe : {r : Record} {h l k roots hints : List ℕ} {sh : Shape} {g : Gather} → Before r h l k roots hints sh → g ≡ beginOf r
-    → SafeHints (plan sh) (pagesNamed (sh .page) 1 (sh .pages) hints) (pagesOf l k g) × Queued l k g
+pub hints-are-safe : {r : Record} {h l k roots hints : List ℕ} {sh : Shape} → Before r h l k roots hints sh
+    → SafeHints (plan sh) (pagesNamed (sh .page) 1 (sh .pages) hints) (hintedOf sh l k 0) × (length k ≡ length l)
 unfolding planOf begun
-hints-are-safe B b = (rw (B .shape, b) (B .safe .onHints), record { each = B .layout .links ∙ sym (B .layout .labels); tail = rw b zero-le })
+hints-are-safe B = (rw (B .shape) (B .safe .onHints), B .layout .links ∙ sym (B .layout .labels))
 
 -- ---- after the hints
 
-pub record Hinted (r : Record) (h l k hints : List ℕ) (sh : Shape) (l1 k1 : List ℕ) (g1 : Gather) : Type 0 where
+-- n pages were hinted, and g1 is what the roots begin with
+pub record Hinted (r : Record) (h l k hints : List ℕ) (sh : Shape) (l1 k1 : List ℕ) (n : ℕ) (g1 : Gather) : Type 0 where
+  pub many : g1 .tail ≡ n
   pub pages : pagesOf l1 k1 g1 ≡ afterHints (planOf (lent h l k r) plainly) (lent h l k r) hints
   pub objects : g1 .objects ≡ 0
   pub words : g1 .words ≡ 0
   pub tied : Tied sh l1 k1 g1
 
-pub hinted-is : {r : Record} {h l k roots hints l1 k1 : List ℕ} {sh : Shape} {g g1 : Gather} → Before r h l k roots hints sh → g ≡ beginOf r
-    → pagesOf l1 k1 g1 ≡ hintPages (plan sh) (pagesNamed (sh .page) 1 (sh .pages) hints) (pagesOf l k g)
-    → Queued l1 k1 g1 × (g1 .cursor ≡ g .cursor) → (g1 .objects ≡ g .objects) × (g1 .words ≡ g .words) → Hinted r h l k hints sh l1 k1 g1
-hinted-is {r} {h} {l} {k} {hints = hints} {sh = sh} {g = g} {g1 = g1} B b e t c = record {
-  pages = e ∙ begun-is r h l k hints sh g (B .shape) b;
-  objects = c .0 ∙ rw b;
-  words = c .1 ∙ rw b;
-  tied = record { queued = t .0; cursor = let i : g1 .cursor ≡ 1 = t .1 ∙ rw b in rw i };
+pub hinted-is : {r : Record} {h l k roots hints l1 k1 : List ℕ} {sh : Shape} {n : ℕ} {g1 : Gather} → Before r h l k roots hints sh
+    → hintedOf sh l1 k1 n ≡ hintPages (plan sh) (pagesNamed (sh .page) 1 (sh .pages) hints) (hintedOf sh l k 0)
+    → Queued l1 k1 n → g1 ≡ beginOf r n → Hinted r h l k hints sh l1 k1 n g1
+hinted-is {r} {h} {l} {k} {hints = hints} {sh = sh} {g1 = g1} B e q b = record {
+  many = rw b;
+  pages = rw b ((rw (B .shape) at e) ∙ (rw (B .shape) at (begun-is r h l k hints sh (B .shape))));
+  objects = rw b;
+  words = rw b;
+  tied = record { queued = rw b q; cursor = rw b };
 }
 
 -- the state that the roots begin with
-hinted-state : {r : Record} {h l k hints l1 k1 : List ℕ} {sh : Shape} {g1 : Gather} → Hinted r h l k hints sh l1 k1 g1
+hinted-state : {r : Record} {h l k hints l1 k1 : List ℕ} {sh : Shape} {n : ℕ} {g1 : Gather} → Hinted r h l k hints sh l1 k1 n g1
     → stateOf h l1 k1 g1 ≡ record { heap = h; pages = afterHints (planOf (lent h l k r) plainly) (lent h l k r) hints; objects = 0; words = 0; moves = [] }
 hinted-state H = rw (H .objects, H .words, H .pages)
 
-pub roots-are-safe : {r : Record} {h l k roots hints l1 k1 : List ℕ} {sh : Shape} {g1 : Gather} → Before r h l k roots hints sh → Hinted r h l k hints sh l1 k1 g1
+pub roots-are-safe : {r : Record} {h l k roots hints l1 k1 : List ℕ} {sh : Shape} {n : ℕ} {g1 : Gather} → Before r h l k roots hints sh → Hinted r h l k hints sh l1 k1 n g1
     → SafeRoots (plan sh) roots (stateOf h l1 k1 g1) × Tied sh l1 k1 g1
 roots-are-safe {r} {h} {l} {k} {sh = sh} B H = (rw (plan-is r h l k sh (B .shape), hinted-state H) (B .safe .onRoots), H .tied)
 
@@ -84,15 +87,15 @@ pub record RootsDone (r : Record) (h l k roots hints : List ℕ) (sh : Shape) (h
   pub tied : Tied sh l2 k2 g2
   pub links : length k2 ≡ length k
 
-pub roots-done : {r : Record} {h l k roots hints l1 k1 h2 l2 k2 roots2 : List ℕ} {sh : Shape} {g1 g2 : Gather} → Before r h l k roots hints sh → Hinted r h l k hints sh l1 k1 g1
+pub roots-done : {r : Record} {h l k roots hints l1 k1 h2 l2 k2 roots2 : List ℕ} {sh : Shape} {n : ℕ} {g1 g2 : Gather} → Before r h l k roots hints sh → Hinted r h l k hints sh l1 k1 n g1
     → rootedOf roots2 (stateOf h2 l2 k2 g2) ≡ forwardRoots (plan sh) roots (stateOf h l1 k1 g1) → Tied sh l2 k2 g2 → length k2 ≡ length k → RootsDone r h l k roots hints sh h2 l2 k2 roots2 g2
 unfolding afterRoots
-roots-done {r} {h} {l} {k} {sh = sh} B H e t n = record { rooted = e ∙ rw (plan-is r h l k sh (B .shape), hinted-state H); tied = t; links = n }
+roots-done {r} {h} {l} {k} {sh = sh} B H e t q = record { rooted = e ∙ rw (plan-is r h l k sh (B .shape), hinted-state H); tied = t; links = q }
 
 -- what the sweep leaves
 pub record Swept (r : Record) (h l k roots hints h3 l3 k3 : List ℕ) (g3 : Gather) : Type 0 where
   pub state : stateOf h3 l3 k3 g3 ≡ afterSweep (planOf (lent h l k r) plainly) (lent h l k r) roots hints
-  pub queued : Queued l3 k3 g3
+  pub queued : Queued l3 k3 (g3 .tail)
 
 module _ {r : Record} {h l k roots hints h2 l2 k2 roots2 : List ℕ} {sh : Shape} {g2 : Gather} (B : Before r h l k roots hints sh) (R : RootsDone r h l k roots hints sh h2 l2 k2 roots2 g2) where
   pages-are : sh .pages ≡ r .pages
@@ -111,23 +114,23 @@ module _ {r : Record} {h l k roots hints h2 l2 k2 roots2 : List ℕ} {sh : Shape
 
 -- ---- after the sweep
 
-module _ {r : Record} {h l k roots hints l1 k1 h2 l2 k2 roots2 h3 l3 k3 : List ℕ} {sh : Shape} {g1 g2 g3 : Gather} (B : Before r h l k roots hints sh) (H : Hinted r h l k hints sh l1 k1 g1)
+module _ {r : Record} {h l k roots hints l1 k1 h2 l2 k2 roots2 h3 l3 k3 : List ℕ} {sh : Shape} {n : ℕ} {g1 g2 g3 : Gather} (B : Before r h l k roots hints sh) (H : Hinted r h l k hints sh l1 k1 n g1)
     (R : RootsDone r h l k roots hints sh h2 l2 k2 roots2 g2) (W : Swept r h l k roots hints h3 l3 k3 g3) where
-  hinted-many : length (afterHints (planOf (lent h l k r) plainly) (lent h l k r) hints .queue) ≡ g1 .tail
-  hinted-many = ap (λ (p : Pages). length (p .queue)) (sym (H .pages)) ∙ queue-length k1 (g1 .tail) (H .tied .queued .tail)
+  hinted-many : length (afterHints (planOf (lent h l k r) plainly) (lent h l k r) hints .queue) ≡ n
+  hinted-many = ap (λ (p : Pages). length (p .queue)) (sym (H .pages)) ∙ queue-length k1 (g1 .tail) (H .tied .queued .tail) ∙ H .many
 
   all-many : length (afterSweep (planOf (lent h l k r) plainly) (lent h l k r) roots hints .pages .queue) ≡ g3 .tail
   all-many = ap (λ (s : State). length (s .pages .queue)) (sym (W .state)) ∙ queue-length k3 (g3 .tail) (W .queued .tail)
 
-  pub tails : g1 .tail ≤ g3 .tail
+  pub tails : n ≤ g3 .tail
   tails = omega (arith, hinted-many, all-many, B .safe .hinted)
 
   -- the whole, once pages are freed and links cleared
 
   pub run-is : {h4 l4 k4 : List ℕ} → h4 ≡ freedHeap (sh .page) (sh .old) l3 h3 → l4 ≡ freedLabels (sh .old) l3 → k4 ≡ replicate (length k) 0
-      → collectOutcome (answerOf r (g1 .tail) g3) h4 l4 k4 roots2 ≡ acceptedCollect (collection plainly (lent h l k r) roots hints)
+      → collectOutcome (answerOf r n g3) h4 l4 k4 roots2 ≡ acceptedCollect (collection plainly (lent h l k r) roots hints)
   unfolding acceptedCollect collection planOf
   run-is a b d =
-      let n : length (drop (length (afterHints (planOf (lent h l k r) plainly) (lent h l k r) hints .queue)) (afterSweep (planOf (lent h l k r) plainly) (lent h l k r) roots hints .pages .queue)) ≡ g3 .tail - g1 .tail
+      let t : length (drop (length (afterHints (planOf (lent h l k r) plainly) (lent h l k r) hints .queue)) (afterSweep (planOf (lent h l k r) plainly) (lent h l k r) roots hints .pages .queue)) ≡ g3 .tail - n
       = rw (length-drop, hinted-many, all-many) in
-      rw (n, hinted-many, a, b, d, B .shape, ← (W .state), ← (R .rooted))
+      rw (t, hinted-many, a, b, d, B .shape, ← (W .state), ← (R .rooted))

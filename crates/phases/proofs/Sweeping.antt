@@ -116,7 +116,7 @@ pub record Queue (k : Plan) (goal s : State) (head : ℕ) : Type 0 where
   pub safe : SafeQueue k f head s
 
 module _ (k : Shape) (goal : State) (h labels links : List ℕ) (g : Gather) (head : ℕ) (Z : Queue (plan k) goal (stateOf h labels links g) head)
-    (D : Queued labels links g) (n : length links ≡ k .pages) where
+    (D : Queued labels links (g .tail)) (n : length links ≡ k .pages) where
   len : length (take (g .tail) links) ≡ g .tail
   len = queue-length links (g .tail) (D .tail)
 

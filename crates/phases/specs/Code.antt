@@ -20,6 +20,10 @@ plan k = record { page = k .page; lo = 1; hi = k .pages; old = k .old; new = k .
 abbrev pub pagesOf : List ℕ → List ℕ → Gather → Pages
 pagesOf labels links g = record { labels = labels; queue = take (g .tail) links; copy = g .copy; fill = g .fill }
 
+-- while the hints are read: n pages have joined, and there is no copy page
+abbrev pub hintedOf : Shape → List ℕ → List ℕ → ℕ → Pages
+hintedOf k labels links n = record { labels = labels; queue = take n links; copy = 0; fill = k .page }
+
 abbrev pub stateOf : List ℕ → List ℕ → List ℕ → Gather → State
 stateOf heap labels links g = record { heap = heap; pages = pagesOf labels links g; objects = g .objects; words = g .words; moves = [] }
 
@@ -29,23 +33,19 @@ forwardedOf v s = record { value = v; state = s }
 abbrev pub rootedOf : List ℕ → State → Rooted
 rootedOf roots s = record { roots = roots; state = s }
 
--- the queue has its links, as many as there are labels
-pub record Queued (labels links : List ℕ) (g : Gather) : Type 0 where
+-- the queue, n pages long, has its links, as many as there are labels
+pub record Queued (labels links : List ℕ) (n : ℕ) : Type 0 where
   pub each : length links ≡ length labels
-  pub tail : g .tail ≤ length links
+  pub tail : n ≤ length links
 
 -- and no page of the block below the cursor is free: the first free page from the cursor on is the lowest
 pub record Tied (k : Shape) (labels links : List ℕ) (g : Gather) : Type 0 where
-  pub queued : Queued labels links g
+  pub queued : Queued labels links (g .tail)
   pub cursor : lowestFree labels (g .cursor) (k .pages) ≡ lowestFree labels 1 (k .pages)
 
 -- ---- what the steps of a `Gather` leave
 
--- a hinted page joined the queue
-abbrev pub joined : Gather → Gather
-joined g = record { tail = g .tail + 1; cursor = g .cursor; copy = g .copy; fill = g .fill; objects = g .objects; words = g .words }
-
--- page q joined it, to be copied to
+-- page q joined the queue, to be copied to
 abbrev pub taken : Gather → ℕ → Gather
 taken g q = record { tail = g .tail + 1; cursor = q + 1; copy = q; fill = 0; objects = g .objects; words = g .words }
 
@@ -53,9 +53,9 @@ taken g q = record { tail = g .tail + 1; cursor = q + 1; copy = q; fill = 0; obj
 abbrev pub copied : Gather → ℕ → Gather
 copied g n = record { tail = g .tail; cursor = g .cursor; copy = g .copy; fill = g .fill + n; objects = g .objects + 1; words = g .words + n }
 
--- before the first step
-abbrev pub beginOf : Record → Gather
-beginOf r = record { tail = 0; cursor = 1; copy = 0; fill = r .page; objects = 0; words = 0 }
+-- after the hints, which named n pages, and before the first copy
+abbrev pub beginOf : Record → ℕ → Gather
+beginOf r n = record { tail = n; cursor = 1; copy = 0; fill = r .page; objects = 0; words = 0 }
 
 abbrev pub shapeOf : Record → Shape
 shapeOf r = record { page = r .page; pages = r .pages; old = r .label; new = otherLabel (r .label) }

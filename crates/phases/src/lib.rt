@@ -19,7 +19,7 @@ ghost use Rattle.rules.specs.Collection.{plainly, planOf, collection};
 ghost use Rattle.rules.specs.Collect.{collectOutcome, acceptedCollect};
 ghost use Rattle.laws.specs.Valid.{Layout};
 ghost use Rattle.laws.specs.Safe.{SafeRun};
-ghost use Rattle.phases.specs.Code.{joined, taken, copied, beginOf, shapeOf, answerOf};
+ghost use Rattle.phases.specs.Code.{taken, copied, beginOf, shapeOf, answerOf};
 
 // What stays the same during a collection: P, T, the old label and the new one.
 pub struct Shape {
@@ -41,16 +41,6 @@ pub struct Gather {
 }
 
 impl Gather {
-    // A hinted page joined the queue.
-    pub fn joined(mut self) -> Gather
-        requires { ⌜ self .tail < 4096 ⌝ }
-        ensures { λ r. ⌜ r ≡ joined self ⌝ }
-    {
-        let tail = self.tail;
-        self.tail = tail + 1;
-        self
-    }
-
     // Page g joined the queue, and copies go there from now on.
     pub fn taken(mut self, g: u32) -> Gather
         requires { ⌜ (self .tail < 4096) × (g < 4096) ⌝ }
@@ -91,12 +81,12 @@ pub fn shape_of(r: Record) -> Shape
     }
 }
 
-// Before the first step. With no copy page the fill is P, so that nothing fits.
-pub fn begin(r: Record) -> Gather
-    ensures { λ g. ⌜ g ≡ beginOf r ⌝ }
+// After the hints, which named `hinted` pages. With no copy page the fill is P, so that nothing fits.
+pub fn begin(r: Record, hinted: u32) -> Gather
+    ensures { λ g. ⌜ g ≡ beginOf r hinted ⌝ }
 {
     Gather {
-        tail: 0,
+        tail: hinted,
         cursor: 1,
         copy: 0,
         fill: r.page,
@@ -136,10 +126,11 @@ pub fn run(
     ensures { λ c. ⌜ collectOutcome c (now (heap .exit)) (now (labels .exit)) (now (links .exit)) (now (roots .exit)) ≡ acceptedCollect (collection plainly (lent (now (heap .entry)) (now (labels .entry)) (now (links .entry)) r) (now (roots .entry)) (now (hints .entry))) ⌝ }
 {
     let k = shape_of(r);
-    let hinted = hints::hint_words(labels, links, k, begin(r), hints);
-    let rooted = forward::forward_roots(heap, labels, links, k, hinted, roots);
+    let hinted = hints::hint_words(labels, links, k, hints);
+    let begun = begin(r, hinted);
+    let rooted = forward::forward_roots(heap, labels, links, k, begun, roots);
     let swept = sweep::sweep_queue(heap, labels, links, k, rooted);
     free::free_pages(heap, labels, k);
     tables::clear16(links);
-    answer(r, hinted.tail, swept)
+    answer(r, hinted, swept)
 }

@@ -8,21 +8,33 @@ ghost use mathlib.Core.Bool.{false, _||_};
 ghost use Prim.Native.Nat.{ℕ, _≤_, _<_};
 ghost use lib.ListN.{length, getD};
 ghost use Rattle.rules.specs.Ranges.{block, has, count};
-ghost use Rattle.rules.specs.Pages.{pagesNamed, pagesUnhinted};
+ghost use Rattle.rules.specs.Pages.{pagesOfHint, pagesNamed, pagesUnhinted};
 ghost use Rattle.phases.specs.Code.{unmarked};
 
-// The pages that the hint words name are marked, two by each word. A word that names none marks page 0, which no one
-// counts.
+// The pages that a hint word names are marked: its own and, where the word begins a page, the one before.
+// A word that names none marks page 0, which no one counts.
+fn mark_word(marks: &mut [bool; 4096], page: u32, pages: u32, word: u32)
+    requires { ⌜ pages ≤ 4096 ⌝ }
+    ensures { λ _. ⌜ ((g : ℕ) → g < length (now (marks .entry)) → getD (now (marks .exit)) g false ≡ (getD (now (marks .entry)) g false || has g (pagesOfHint page 1 pages word))) ⌝ }
+    ensures { λ _. ⌜ length (now (marks .exit)) ≡ length (now (marks .entry)) ⌝ }
+{
+    let own = pages::page_named(page, 1, pages, word) as usize;
+    marks[own] = true;
+    if !pages::begins_page(page, word) {
+        return;
+    }
+    let before = pages::page_named_before(page, 1, pages, word) as usize;
+    marks[before] = true;
+}
+
+// Those that all of them name.
 fn mark_named(marks: &mut [bool; 4096], hints: &[u32], page: u32, pages: u32)
     requires { ⌜ pages ≤ 4096 ⌝ }
     ensures { λ _. ⌜ ((g : ℕ) → g < length (now (marks .entry)) → getD (now (marks .exit)) g false ≡ (getD (now (marks .entry)) g false || has g (pagesNamed page 1 pages (now (hints .entry))))) ⌝ }
 {
     let mut i = 0;
     while i < hints.len() {
-        let own = pages::page_named(page, 1, pages, hints[i]) as usize;
-        marks[own] = true;
-        let before = pages::page_named_before(page, 1, pages, hints[i]) as usize;
-        marks[before] = true;
+        mark_word(marks, page, pages, hints[i]);
         i += 1;
     }
 }

@@ -174,7 +174,7 @@ module _ (k : Plan) (b : Pages) (U : Unhinted k b) (named : List ℕ) where
   unfolding SafeHints
   hints-safe len low few [] s H sub = tt
   hints-safe len low few (g ∷ gs) s H sub = (
-    record { labels = H .labelsLength ∙ len; low = low; few = few; queue = room },
+    record { new = U .new≢old; labels = H .labelsLength ∙ len; low = low; few = few; queue = room },
     hints-safe len low few gs (hintPage k g s) (hint-page s H g (sub g (List·Memᴰ·head refl))) (λ z q. sub z (List·Memᴰ·tail q)),
   )
     where

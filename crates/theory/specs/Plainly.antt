@@ -138,7 +138,7 @@ module _ (k : Plan) where
   hints-quiet : (gs : List ℕ) (s : Pages) → SafeHints k gs s → SafeHints (quiet k) gs s
   unfolding SafeHints hintPage
   hints-quiet [] s p = tt
-  hints-quiet (g ∷ gs) s (p, q) = (record { labels = p .labels; low = p .low; few = p .few; queue = p .queue }, hints-quiet gs (hintPage k g s) q)
+  hints-quiet (g ∷ gs) s (p, q) = (record { new = p .new; labels = p .labels; low = p .low; few = p .few; queue = p .queue }, hints-quiet gs (hintPage k g s) q)
 
 -- ---- the whole
 

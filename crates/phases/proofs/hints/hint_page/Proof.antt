@@ -1,5 +1,5 @@
 -- `phases::hints::hint_page` meets its contract. Where the page joins, the queue has a place. Assumes nothing.
-use mathlib.Core.Path.{_≡_, refl, sym, _∙_}
+use mathlib.Core.Path.{_≡_, sym, _∙_}
 use Prim.Native.Nat.{_<_}
 use native.Mathlib.Omega.{arith}
 use lib.ListN.{length}
@@ -13,8 +13,8 @@ use Rattle.phases.proofs.hints.hint_page.Tie as tie
 old : (c : tie.Else1) → at (c .before .before .before .before .before .before .args .labels .now) (c .before .before .before .before .before .before .args .page) ≡ c .before .before .before .before .before .before .args .k .old
 old c = sym (c .before .before .label-at .ensures) ∙ c .if1 .left
 
-fits : (c : tie.Else1) → (c .before .before .before .before .before .before .args .g .tail < length (c .before .before .before .before .before .before .args .links .now)) × (c .before .before .before .before .before .before .args .g .tail < 4096)
-fits c = hint-fits (c .before .before .before .before .before .before .args .k) (c .before .before .before .before .before .before .args .labels .now) (c .before .before .before .before .before .before .args .links .now) (c .before .before .before .before .before .before .args .g) (c .before .before .before .before .before .before .args .page) (c .before .before .before .before .before .before .pre .0) (c .before .before .before .before .before .before .pre .1 .0) (old c)
+fits : (c : tie.Else1) → (c .before .before .before .before .before .before .args .queued < length (c .before .before .before .before .before .before .args .links .now)) × (c .before .before .before .before .before .before .args .queued < 4096)
+fits c = hint-fits (c .before .before .before .before .before .before .args .k) (c .before .before .before .before .before .before .args .labels .now) (c .before .before .before .before .before .before .args .links .now) (c .before .before .before .before .before .before .args .queued) (c .before .before .before .before .before .before .args .page) (c .before .before .before .before .before .before .pre .0) (c .before .before .before .before .before .before .pre .1 .0) (old c)
 
 label-at-requires : tie.Need-label-at-requires
 label-at-requires c κs = search needs
@@ -23,7 +23,7 @@ same-length : tie.Need-same-length
 same-length c = search needs
 
 returns : tie.Need-returns
-returns c = (hint-not (c .before .before .before .before .before .before .args .k) (c .before .before .before .before .before .before .args .labels .now) (c .before .before .before .before .before .before .args .links .now) (c .before .before .before .before .before .before .args .g) (c .before .before .before .before .before .before .args .page) (λ e. c .if1 .taken (c .before .before .label-at .ensures ∙ e)), ((c .before .before .before .before .before .before .pre .1 .0, refl), (refl, refl)))
+returns c = (hint-not (c .before .before .before .before .before .before .args .k) (c .before .before .before .before .before .before .args .labels .now) (c .before .before .before .before .before .before .args .links .now) (c .before .before .before .before .before .before .args .queued) (c .before .before .before .before .before .before .args .page) (λ e. c .if1 .taken (c .before .before .label-at .ensures ∙ e)), c .before .before .before .before .before .before .pre .1 .0)
 
 mul-labels : tie.Need-mul-labels
 mul-labels c = search needs
@@ -31,20 +31,17 @@ mul-labels c = search needs
 slice-write-labels : tie.Need-slice-write-labels
 slice-write-labels c = omega (arith, c .before .before .before .before .before .before .pre .1 .1, c .before .before .before .before .before .before .pre .0 .labels)
 
-cast-tail : tie.Need-cast-tail
-cast-tail c = search needs
-
 cast-links : tie.Need-cast-links
-cast-links c = omega (arith, c .before .before .before .before .before .before .before .pre .1 .1, c .before .before .before .before .before .before .before .pre .0 .few)
+cast-links c = omega (arith, c .before .before .before .before .before .before .pre .1 .1, c .before .before .before .before .before .before .pre .0 .few)
 
 mul-links : tie.Need-mul-links
 mul-links c = search needs
 
 slice-write-links : tie.Need-slice-write-links
-slice-write-links c = (fits (c .before)) .0
+slice-write-links c = fits c .0
 
-joined-requires : tie.Need-joined-requires
-joined-requires c κs = (fits (c .before)) .1
+add-result : tie.Need-add-result
+add-result c = omega (arith, fits c .1)
 
 same-length-2 : tie.Need-same-length-2
 same-length-2 c = search needs
@@ -53,9 +50,10 @@ same-length-3 : tie.Need-same-length-3
 same-length-3 c = search needs
 
 returns-2 : tie.Need-returns-2
-returns-2 c =
-    let Q = queued-joined (c .before .before .before .before .before .before .before .before .args .k) (c .before .before .before .before .before .before .before .before .args .labels .now) (c .before .before .before .before .before .before .before .before .args .links .now) (c .before .before .before .before .before .before .before .before .args .g) (c .before .before .before .before .before .before .before .before .args .page) (c .before .before .before .before .before .before .before .before .pre .1 .0) ((fits (c .before .before)) .0) in
-    rw (c .joined .ensures) (hint-joins (c .before .before .before .before .before .before .before .before .args .k) (c .before .before .before .before .before .before .before .before .args .labels .now) (c .before .before .before .before .before .before .before .before .args .links .now) (c .before .before .before .before .before .before .before .before .args .g) (c .before .before .before .before .before .before .before .before .args .page) (old (c .before .before)) ((fits (c .before .before)) .0), ((Q, refl), (refl, refl)))
+returns-2 c = (
+  hint-joins (c .before .before .before .before .before .before .args .k) (c .before .before .before .before .before .before .args .labels .now) (c .before .before .before .before .before .before .args .links .now) (c .before .before .before .before .before .before .args .queued) (c .before .before .before .before .before .before .args .page) (old c) (fits c .0),
+  queued-joined (c .before .before .before .before .before .before .args .k) (c .before .before .before .before .before .before .args .labels .now) (c .before .before .before .before .before .before .args .links .now) (c .before .before .before .before .before .before .args .queued) (c .before .before .before .before .before .before .args .page) (c .before .before .before .before .before .before .pre .1 .0) (fits c .0),
+)
 
 pub hint-page-spec : {M : Type 1} → statement M
 hint-page-spec =
@@ -66,11 +64,10 @@ hint-page-spec =
     returns
     mul-labels
     slice-write-labels
-    cast-tail
     cast-links
     mul-links
     slice-write-links
-    joined-requires
+    add-result
     same-length-2
     same-length-3
     returns-2)

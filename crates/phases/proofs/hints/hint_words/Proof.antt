@@ -1,29 +1,27 @@
 -- `phases::hints::hint_words` meets its contract. The loop's invariant: what is left of the hints gives what all of them give at first, and is safe. Assumes nothing.
 use mathlib.Core.Path.{_≡_, refl, _∙_}
-use Prim.Native.Nat.{_-_}
+use Prim.Native.Nat.{zero-le, _-_}
 use lib.ListN.{length, drop}
 use Rattle.rules.specs.Pages.{pagesNamed}
 use Rattle.rules.specs.Collection.{hintPages}
 use Rattle.laws.specs.Safe.{SafeHints}
-use Rattle.phases.specs.Code.{plan, pagesOf, Queued}
+use Rattle.phases.specs.Code.{plan, hintedOf, Queued}
 use Rattle.phases.proofs.Joining.{hints-end, hints-safe, hints-next, hints-turn}
 use borrow.Author.Needs.{needs}
 use Rattle.phases.proofs.hints.hint_words.Statement.{statement}
 use Rattle.phases.proofs.hints.hint_words.Tie as tie
 
 abbrev Inv-loop : tie.InvT-loop
-Inv-loop labels₀ links₀ k hints g₀ i₀ labels links g i = ((hintPages (plan k) (pagesNamed (k .page) 1 (k .pages) (drop i hints)) (pagesOf labels links g) ≡ hintPages (plan k) (pagesNamed (k .page) 1 (k .pages) hints) (pagesOf labels₀ links₀ g₀))
-    × SafeHints (plan k) (pagesNamed (k .page) 1 (k .pages) (drop i hints)) (pagesOf labels links g))
-    × ((Queued labels links g × (g .cursor ≡ g₀ .cursor)) × ((g .objects ≡ g₀ .objects) × (g .words ≡ g₀ .words)))
+Inv-loop labels₀ links₀ k hints queued₀ i₀ labels links queued i = ((hintPages (plan k) (pagesNamed (k .page) 1 (k .pages) (drop i hints)) (hintedOf k labels links queued) ≡ hintPages (plan k) (pagesNamed (k .page) 1 (k .pages) hints) (hintedOf k labels₀ links₀ 0))
+    × SafeHints (plan k) (pagesNamed (k .page) 1 (k .pages) (drop i hints)) (hintedOf k labels links queued))
+    × Queued labels links queued
     × ((length labels ≡ length labels₀) × (length links ≡ length links₀))
 
 abbrev μ-loop : tie.MeasureT-loop
-μ-loop labels₀ links₀ k hints g₀ i₀ labels links g i = length hints - i
+μ-loop labels₀ links₀ k hints queued₀ i₀ labels links queued i = length hints - i
 
 loop-holds : tie.Need-loop-holds Inv-loop μ-loop
-loop-holds c =
-    let pre = c .before .before .before .pre in
-    ((refl, pre .0), ((pre .1, refl), (refl, refl)), (refl, refl))
+loop-holds c = ((refl, c .before .before .before .pre .0), record { each = c .before .before .before .pre .1; tail = zero-le }, (refl, refl))
 
 mul-hint-word : tie.Need-mul-hint-word Inv-loop μ-loop
 mul-hint-word c = search needs
@@ -32,9 +30,7 @@ shared-slice-read-hint-word : tie.Need-shared-slice-read-hint-word Inv-loop μ-l
 shared-slice-read-hint-word c = search needs
 
 hint-word-requires : tie.Need-hint-word-requires Inv-loop μ-loop
-hint-word-requires c κs =
-    let loop = c .before .before .before .before .loop in
-    (hints-safe _ _ _ _ _ _ (c .before .before .before .loop-test .taken) _ (loop .inv .0 .1), loop .inv .1 .0 .0)
+hint-word-requires c κs = (hints-safe _ _ _ _ _ _ (c .before .before .before .loop-test .taken) _ (c .before .before .before .before .loop .inv .0 .1), c .before .before .before .before .loop .inv .1)
 
 add-i : tie.Need-add-i Inv-loop μ-loop
 add-i c = search needs
@@ -44,17 +40,13 @@ loop-less c = search needs
 
 loop-again : tie.Need-loop-again Inv-loop μ-loop
 loop-again c =
-    let loop-test = c .before .before .before .before .before .before .before .before .loop-test in
     let call = c .before .before .before .before .hint-word in
     let inv = c .before .before .before .before .before .before .before .before .before .loop .inv in (
       (
-        hints-turn _ _ _ _ _ _ (loop-test .taken) _ _ (call .ensures .0) _ (inv .0 .0),
-        hints-next _ _ _ _ _ _ (loop-test .taken) _ _ (call .ensures .0) (inv .0 .1),
+        hints-turn _ _ _ _ _ _ (c .before .before .before .before .before .before .before .before .loop-test .taken) _ _ (call .ensures .0) _ (inv .0 .0),
+        hints-next _ _ _ _ _ _ (c .before .before .before .before .before .before .before .before .loop-test .taken) _ _ (call .ensures .0) (inv .0 .1),
       ),
-      (
-        (call .ensures .1 .0 .0, call .ensures .1 .0 .1 ∙ inv .1 .0 .1),
-        (call .ensures .1 .1 .0 ∙ inv .1 .1 .0, call .ensures .1 .1 .1 ∙ inv .1 .1 .1),
-      ),
+      call .ensures .1,
       (call .kept .0 ∙ inv .2 .0, call .kept .1 .0 ∙ inv .2 .1),
     )
 
@@ -65,9 +57,7 @@ same-length-2 : tie.Need-same-length-2 Inv-loop μ-loop
 same-length-2 c = c .before .loop .inv .2 .1
 
 returns : tie.Need-returns Inv-loop μ-loop
-returns c =
-    let loop = c .before .loop in
-    (hints-end _ _ _ _ _ _ _ _ (c .loop-test .left) (loop .inv .0 .0), loop .inv .1)
+returns c = (hints-end _ _ _ _ _ _ _ _ (c .loop-test .left) (c .before .loop .inv .0 .0), c .before .loop .inv .1)
 
 pub hint-words-spec : {M : Type 1} → statement M
 hint-words-spec =
