@@ -131,7 +131,8 @@ static void bench_word(const char *what, int calls, uint32_t repeats, uint32_t p
   }
 }
 
-/* A live structure over a third of the pages; `crowded`, over half of them, so that only hints make room. */
+/* A live structure over a third of the pages; `crowded`, over half of them, so that only hints make room. `ends` are arrays, and the hints are
+   words just past a page. */
 static void build(const char *shape, uint32_t page, uint32_t pages)
 {
   uint32_t i, used = pages / 3 - 1;
@@ -149,7 +150,7 @@ static void build(const char *shape, uint32_t page, uint32_t pages)
     for (i = 1; i < made_len; i++)
       heap[made[(i - 1) / 2] + 1 + (i - 1) % 2] = made[i];
     roots[0] = made[0];
-  } else if (strcmp(shape, "arrays") == 0) {
+  } else if (strcmp(shape, "arrays") == 0 || strcmp(shape, "ends") == 0) {
     fill_pages(used, page - 1, 0);
     for (i = 0; i < made_len; i++)
       roots[i] = made[i];
@@ -173,7 +174,7 @@ static void bench_collect(const char *mode, uint32_t repeats, const char *shape,
   build(shape, page, pages);
   hints_len = hinted;
   for (i = 0; i < hints_len; i++)
-    hints[i] = below((uint32_t)words);
+    hints[i] = strcmp(shape, "ends") == 0 ? page * (1 + below(pages)) : below((uint32_t)words);
   if (mode[0] == 't')
     roots[roots_len++] = made[0] + 1;
   memcpy(heap_kept, heap, words * sizeof *heap);
@@ -207,6 +208,7 @@ static const char *const workloads[] = {
   "20 collect arrays 128 64 0", "4 collect arrays 128 1024 0", "2 collect arrays 128 4096 0",
   "20 collect dead 128 64 0", "4 collect dead 128 1024 0", "2 collect dead 128 4096 0",
   "4 collect list 128 1024 16", "4 collect list 128 1024 8192", "2 collect list 128 4096 8192", "20 collect list 128 64 8192",
+  "20 collect ends 128 64 8192", "4 collect ends 128 1024 8192",
   "20 collect crowded 128 64 256", "4 collect crowded 128 1024 8192", "2 collect crowded 128 4096 8192",
 };
 

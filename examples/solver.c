@@ -1,5 +1,6 @@
-/* solver.c: a native solver in small. It makes an object, keeps no address of it but one a word past its header, in a local of its own,
-   and collects with its stack as the hints: the object stays where it is. Then it collects without hints: the object is gone.
+/* solver.c: a native solver in small. It makes an object, keeps no address of it but one a word past its header, in a local of its own; and an
+   array that fills a page, of which it keeps the address just past the end, as a loop over it does. It collects with its stack as the hints:
+   both stay where they are. Then it collects without hints: they are gone.
 
    cc -Iinclude examples/solver.c target/staticlib/libsolver.a -o solver && ./solver
 
@@ -60,33 +61,47 @@ __attribute__((noinline)) static uint32_t make_sample(void)
   return object + 1;
 }
 
+/* Makes the array, a page long, and returns the address just past its end: a place on the next page. Its last word is 5678. */
+__attribute__((noinline)) static uint32_t make_array(void)
+{
+  uint32_t array = accepted(fouterpin_allocate(LENT, page - 1, 0), "allocate");
+  accepted(fouterpin_store(LENT, array, page - 2, 5678), "store");
+  return array + page;
+}
+
 __attribute__((noinline)) static int solve(const uint32_t *high)
 {
-  volatile uint32_t inside; /* in memory, and so among the hints */
+  volatile uint32_t inside, past; /* in memory, and so among the hints */
   uint32_t i;
-  fouterpin_answer a;
+  fouterpin_answer a, b;
   accepted(fouterpin_start(LENT, page, pages), "start");
   for (i = 0; i < 12; i++) /* what nobody keeps */
     accepted(fouterpin_allocate(LENT, 5, 0), "allocate");
   inside = make_sample();
+  past = make_array();
   roots[0] = accepted(fouterpin_allocate(LENT, 15, 15), "allocate");
   printf("the object is at %u, and a local holds %u; a root cell holds %u\n", (unsigned)inside - 1, (unsigned)inside, (unsigned)roots[0]);
+  printf("the array is at %u, and a local holds %u, on page %u and just past page %u\n", (unsigned)past - page, (unsigned)past,
+         (unsigned)fouterpin_page_named(past, page, pages), (unsigned)fouterpin_page_named_before(past, page, pages));
   collect_with_stack(high);
   a = fouterpin_load(LENT, inside - 1, 2);
   printf("at %u there is: refusal %u, payload word 2 is %u; the root cell holds %u\n", (unsigned)inside - 1, (unsigned)a.refusal, (unsigned)a.value,
          (unsigned)roots[0]);
-  if (a.refusal != 0 || a.value != 1234)
+  b = fouterpin_load(LENT, past - page, page - 2);
+  printf("at %u there is: refusal %u, the last word is %u\n", (unsigned)past - page, (unsigned)b.refusal, (unsigned)b.value);
+  if (a.refusal != 0 || a.value != 1234 || b.refusal != 0 || b.value != 5678)
     return 1;
   collect(roots, 0);
   a = fouterpin_load(LENT, inside - 1, 2);
-  printf("without hints: refusal %u; the root cell holds %u\n", (unsigned)a.refusal, (unsigned)roots[0]);
-  return a.refusal == FOUTERPIN_NO_OBJECT ? 0 : 1;
+  b = fouterpin_load(LENT, past - page, page - 2);
+  printf("without hints: refusals %u and %u; the root cell holds %u\n", (unsigned)a.refusal, (unsigned)b.refusal, (unsigned)roots[0]);
+  return a.refusal == FOUTERPIN_NO_OBJECT && b.refusal == FOUTERPIN_NO_OBJECT ? 0 : 1;
 }
 
 int main(void)
 {
   uint32_t high = 0;
   int status = solve(&high);
-  printf(status == 0 ? "the object stayed while the stack held it\n" : "NOT as it should be\n");
+  printf(status == 0 ? "both stayed while the stack held them\n" : "NOT as it should be\n");
   return status;
 }

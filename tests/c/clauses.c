@@ -167,6 +167,11 @@ static void pairing(void)
   after.heap[34] = 11, expect("references break the pairing");
   /* a hint that names page 2 as well: C and D should have stayed */
   hints[1] = 23, expect("an object on a hinted page is gone");
+  /* a hint just past page 3, on a page that is free: E should have stayed */
+  hints[1] = 32, expect("an object on a hinted page is gone");
+  /* hints just past the heap, whose last page is free, and at the first word of page 1: they name no other page in use */
+  hints[1] = words, expect(NULL);
+  hints[1] = 8, expect(NULL);
 }
 
 /* Makes B and A change places: each page in use is as sound as it was. */

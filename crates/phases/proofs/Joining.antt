@@ -108,7 +108,7 @@ module _ (K : Plan) (P lo hi w : ℕ) (s : Pages) where
 -- ---- the hint words in order: what is left to do from the i-th on gives what there was to do at first
 
 -- what there is to do with the pages of one word, and then with the rest
-pub hints-both : (K : Plan) (gs rest : List ℕ) (s : Pages) → hintPages K (gs ++ rest) s ≡ hintPages K rest (hintPages K gs s)
+hints-both : (K : Plan) (gs rest : List ℕ) (s : Pages) → hintPages K (gs ++ rest) s ≡ hintPages K rest (hintPages K gs s)
 unfolding hintPages
 hints-both K [] rest s = refl
 hints-both K (g ∷ gs) rest s = hints-both K gs rest (hintPage K g s)
