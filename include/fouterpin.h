@@ -29,11 +29,11 @@
    (it is then the one given). Its fields are for reading; any other numbers in it are refused with 1 or, where they are valid
    (fouterpin_start alone takes any), believed.
 
-   LIFETIME OF AN OBJECT. Between collections no object moves. A collection keeps the objects on pages that a hint names (its own page
-   and that of the word before it), where they are; it moves every other object that can be reached from those or from a root cell; it forgets the rest and zeroes their pages.
-   After it, an address is good only if it was read from a root cell, read from a reference of an object that stayed, or named an object
-   on a hinted page. fouterpin_load and fouterpin_store refuse what is no object's address, but a stale address may by chance be
-   another object's.
+   LIFETIME OF AN OBJECT. Between collections no object moves. A collection keeps the objects on pages that a hint names (the page of
+   the hint word and that of the word before it), where they are; it moves every other object that can be reached from those or from a
+   root cell; it forgets the rest and zeroes their pages. After it, an address is good only if it was read from a root cell, read from a
+   reference of an object that stayed, or named an object on a hinted page. fouterpin_load and fouterpin_store refuse what is no object's
+   address, but a stale address may by chance be another object's.
 
    REFUSALS. Each answer begins with a refusal number, 0 where the call was accepted. A refused call has changed nothing: not one
    word, label, link or root; its value (for collect, its four counts) is 0 and its record is the one given. Tests go in the order of the
@@ -109,8 +109,8 @@ fouterpin_answer fouterpin_store(uint32_t *heap, size_t heap_len, uint16_t *labe
 /* Collects. Every page in use that holds the place of a hint word, or the place before it, stays, with all of its objects; everything
    else that is reached from there or from the root cells is copied together, and every reference and root cell is corrected; all other
    pages are zeroed and freed. A hint may be any word: an address inside an object, or just past its last word, keeps it as well as its
-   own, and a number that is no address does no harm but to keep a page, or two. Refused: 1, 7, 6, 8. After 8, collect with fewer pages in use, or lend a larger heap: more hints may help, since a
-   page that stays needs no room. */
+   own, and a number that is no address does no harm but to keep a page, or two. Refused: 1, 7, 6, 8. After 8, collect with fewer pages in
+   use, or lend a larger heap: more hints may help, since a page that stays needs no room. */
 fouterpin_collected fouterpin_collect(uint32_t *heap, size_t heap_len, uint16_t *labels, size_t labels_len, uint16_t *links, size_t links_len,
                                       fouterpin_record r, uint32_t *roots, size_t roots_len, const uint32_t *hints, size_t hints_len);
 

@@ -47,7 +47,7 @@ pub record FromStart (m : Lent) : Type 0 where
 
 -- ---- one collection
 
--- page g is hinted: a hint names it, and it is in use
+-- page g is hinted: a hint word names it, as its own page or as that of the word before (Q-1), and it is in use
 pub record Hinted (m : Lent) (hints : List ℕ) (g : ℕ) : Type 0 where
   pub inUse : InUse m g
   pub named : List·Memᴰ g (pagesNamed (m .rec .page) 1 (m .rec .pages) hints)
