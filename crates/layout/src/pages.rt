@@ -68,7 +68,8 @@ pub fn begins_page(page: u32, word: u32) -> bool
     word % page == 0
 }
 
-// Both for a native solver, which may ask with any P and T: a bad one names no page.
+// The pages that a word and the word before name, for a native solver, which may ask with any P and T: a bad one names no
+// page.
 pub fn page_named_checked(word: u32, page: u32, pages: u32) -> u32
     ensures { λ r. ⌜ r ≡ pageNamedToC word page pages ⌝ }
 {

@@ -1,10 +1,10 @@
 -- What 'hinted' comes to since Q-1, in a user's words. A page is hinted where it is in use and a hint word, or the word before
 -- one, lies on it; so an address from an object's first word to just past its last one keeps the object, where it is and as it is.
-use mathlib.Core.Path.{_≡_, refl, sym, ap, _∙_, subst}
+use mathlib.Core.Path.{_≡_, refl, sym, _∙_, subst}
 use mathlib.Core.Logic.{_≢_, _⊎_, inl, inr}
 use mathlib.Core.Bool.{Bool, true, false, cond, _&&_}
 use mathlib.Core.List.{List, [], _∷_, List·Memᴰ, List·Memᴰ·head, List·Memᴰ·tail, List·Memᴰ·cases-cons, List·Memᴰ·not-nil}
-use Prim.Native.Nat.{ℕ, _+_, _-_, _/_, _%_, _≤_, _<_}
+use Prim.Native.Nat.{ℕ, _+_, _-_, _/_, _≤_, _<_}
 use native.Mathlib.Omega.{arith}
 use native.Mathlib.Decide.{decLt}
 use lib.Dec.{leb, ltb}
@@ -16,9 +16,9 @@ use Rattle.rules.specs.Lent.{Lent}
 use Rattle.rules.specs.Sound.{InUse, IsObject, Sound, refs, payload}
 use Rattle.rules.specs.Collect.{collect}
 use Rattle.rules.specs.Demands.{FromStart, Hinted, onHinted}
-use Rattle.laws.specs.Pages.{split-page, same-page, named-is, before-is}
+use Rattle.laws.specs.Pages.{named-is, before-is}
 use Rattle.laws.specs.Valid.{valid-layout}
-use Rattle.laws.specs.Objects.{page-pos}
+use Rattle.laws.specs.Objects.{page-pos, object-page}
 use Rattle.laws.specs.LookUp.{placed}
 use Rattle.promises.specs.Demand3.{demand3}
 
@@ -107,10 +107,7 @@ module _ (m : Lent) (hints : List ℕ) (x : ℕ) (S : Sound m) (ob : IsObject m 
 
   -- each word of the object lies on its page
   on-page : (v : ℕ) → x ≤ v → v < x + n → v / P ≡ x / P
-  on-page v a b =
-      let fits : x % P + n ≤ P = omega (arith, placed m x (valid-layout m (S .valid)) ob .fits, split-page P x) in
-      let e : x + (v - x) ≡ v = omega arith in
-      ap (λ (k : ℕ). k / P) (sym e) ∙ same-page (page-pos m (S .valid)) x n (v - x) fits (omega arith)
+  on-page v a b = let e : x + (v - x) ≡ v = omega arith in rw e at (object-page m (page-pos m (S .valid)) x (v - x) ob (omega arith))
 
   held-names : (w : ℕ) → x ≤ w → w ≤ x + n → Dec (w < x + n) → Names P w (x / P)
   held-names w a b (yes l) = inl (on-page w a l)

@@ -1,5 +1,5 @@
--- The starred edges of document 01, and those of Q-1: one table, and one theorem that antt computes. The program `edges` runs the same on the
--- code.
+-- The starred edges of document 01, and those of Q-1: one table, and one theorem that antt computes. The program `edges` runs
+-- the same on the code.
 use mathlib.Core.Path.{_≡_, refl, ap, _∙_, sym}
 use mathlib.Core.Logic.{_⊎_, inl, inr}
 use mathlib.Core.Bool.{Bool, true, _&&_}
