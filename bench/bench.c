@@ -76,9 +76,10 @@ static void shuffle_made(void)
   }
 }
 
-static void counted(fouterpin_answer a)
+/* An answer with the refusal that it should have. */
+static void counted(fouterpin_answer a, uint32_t refusal)
 {
-  if (a.refusal != 0) {
+  if (a.refusal != refusal) {
     printf("refused with %" PRIu32 "\n", a.refusal);
     exit(1);
   }
@@ -94,7 +95,7 @@ static void bench_fits(int calls, uint32_t repeats, uint32_t page, uint32_t d)
   rec.fill = 1;
   for (i = 0; i < repeats; i++)
     if (calls)
-      counted(CALL(allocate)(LENT, d, 1));
+      counted(CALL(allocate)(LENT, d, 1), 0);
 }
 
 /* Allocate that takes a page, with a third of the pages in use; the page's label is taken back. */
@@ -106,27 +107,42 @@ static void bench_page(int calls, uint32_t repeats, uint32_t page, uint32_t page
   rec.fill = page;
   for (i = 0; i < repeats; i++) {
     if (calls)
-      counted(CALL(allocate)(LENT, 2, 1));
+      counted(CALL(allocate)(LENT, 2, 1), 0);
     labels[used + 1] = 0;
   }
 }
 
-/* Load and store go over all objects of a page in turn, so that the walk is half a page long at the mean. */
+/* Load, store and look-up go over all objects of a page in turn, so that the object is half a page behind its first word at the mean. Look-up is
+   given the object's own address, or that of its last word, which is inside. */
+enum { loads, looks, insides, numbers, references, word_calls };
+static const char *const word_call_names[word_calls] = {"load", "look", "inside", "number", "reference"};
+
 static void bench_word(const char *what, int calls, uint32_t repeats, uint32_t page, uint32_t d)
 {
   uint32_t i, n;
+  int call;
+  for (call = 0; call < word_calls && strcmp(what, word_call_names[call]) != 0; call++) /* once, so that it is not counted with the calls */
+    ;
+  if (call == word_calls) {
+    printf("no such workload\n");
+    exit(2);
+  }
   begin(page, 64);
   fill_pages(2, d, 1);
   n = made_len / 2;
   for (i = 0; i < repeats; i++) {
     uint32_t object = made[i % n];
     if (calls) {
-      if (what[0] == 'l')
-        counted(CALL(load)(LENT, object, 1));
-      else if (what[0] == 'n')
-        counted(CALL(store)(LENT, object, 1, i));
+      if (call == loads)
+        counted(CALL(load)(LENT, object, 1), 0);
+      else if (call == looks)
+        counted(CALL(look_up)(LENT, object), 0);
+      else if (call == insides)
+        counted(CALL(look_up)(LENT, object + d), FOUTERPIN_INSIDE);
+      else if (call == numbers)
+        counted(CALL(store)(LENT, object, 1, i), 0);
       else
-        counted(CALL(store)(LENT, object, 0, made[n + (i + n / 2) % n]));
+        counted(CALL(store)(LENT, object, 0, made[n + (i + n / 2) % n]), 0);
     }
   }
 }
@@ -199,6 +215,8 @@ static const char *const workloads[] = {
   "20000 fits 8 2", "20000 fits 128 2", "20000 fits 1024 2", "5000 fits 1024 900",
   "5000 page 8 64", "1000 page 8 1024", "300 page 8 4096", "1000 page 128 1024",
   "20000 load 8 3", "20000 load 128 3", "5000 load 1024 3", "5000 load 1024 60",
+  "20000 look 8 3", "20000 look 128 3", "5000 look 1024 3", "5000 look 1024 60",
+  "20000 inside 8 3", "20000 inside 128 3", "5000 inside 1024 3", "5000 inside 1024 60",
   "20000 number 8 3", "20000 number 128 3", "5000 number 1024 3", "5000 number 1024 60",
   "20000 reference 8 3", "20000 reference 128 3", "5000 reference 1024 3", "5000 reference 1024 60",
   "100 collect list 8 64 0", "20 collect list 128 64 0", "4 collect list 1024 64 0", "1 collect list 1024 1024 0",

@@ -1,5 +1,5 @@
-/* plain.c: document 01's rules, with Q-1, as a C programmer would write them by hand for speed, to stand beside the proved library in bench/run:
-   the same tests, the same order of work and the same memory, nothing besides what is lent. Pages are found by a shift, the free page of
+/* plain.c: document 01's rules, with Q-1 and Q-2, as a C programmer would write them by hand for speed, to stand beside the proved library in
+   bench/run: the same tests, the same order of work and the same memory, nothing besides what is lent. Pages are found by a shift, the free page of
    a collection by a cursor that only moves up, and the queue is the links in order of joining. It answers as the model does:
    bench/run checks that before it counts. */
 #include "plain.h"
@@ -28,31 +28,32 @@ static inline uint32_t object_words(uint32_t word, uint32_t room)
   return (word & 1) != 0 && n <= room && (word & 0xffff) >> 1 < n ? n : 0;
 }
 
-/* Document 01's look-up walks the page to its stop. With -DLEAVE_EARLY it leaves off once the address is met or passed, as request Q-4
-   asks of the library: compare like with like. */
-static inline int is_start(const uint32_t *heap, const uint16_t *labels, const fouterpin_record *r, unsigned shift, uint32_t address)
+/* The start of the object that the address is on or inside; 0 if nothing is there. Document 01's look-up walks the page to its stop, and so
+   the object is the last one met that starts no later than the address, unless the walk stopped before. With -DLEAVE_EARLY it leaves off
+   once the address is met or passed, as request Q-4 asks of the library: compare like with like. */
+static inline uint32_t object_at(const uint32_t *heap, const uint16_t *labels, const fouterpin_record *r, unsigned shift, uint32_t address)
 {
-  uint32_t which = address >> shift, at, end, n;
-  int met = 0;
+  uint32_t which = address >> shift, at, end, n, start = 0;
   if (which == 0 || which >= r->pages || labels[which] != r->label)
     return 0;
   at = which << shift;
   end = at + r->page;
   while (at < end && (n = object_words(heap[at], end - at)) != 0) {
 #ifdef LEAVE_EARLY
-    if (at >= address)
-      return at == address;
+    if (address - at < n)
+      return at;
 #else
-    met |= at == address;
+    if (at <= address)
+      start = at;
 #endif
     at += n;
   }
-  return met;
+  return address < at ? start : 0;
 }
 
 static inline int is_reference(const uint32_t *heap, const uint16_t *labels, const fouterpin_record *r, unsigned shift, uint32_t word)
 {
-  return word == 0 || is_start(heap, labels, r, shift, word);
+  return word == 0 || object_at(heap, labels, r, shift, word) == word;
 }
 
 static inline fouterpin_answer answer(uint32_t refusal, uint32_t value, fouterpin_record r)
@@ -62,6 +63,13 @@ static inline fouterpin_answer answer(uint32_t refusal, uint32_t value, fouterpi
   a.value = value;
   a.record = r;
   return a;
+}
+
+/* Refusal 4 or 10 where no object starts at the address; else it is accepted, and the value is the address. */
+static inline fouterpin_answer looked_up(const uint32_t *heap, const uint16_t *labels, fouterpin_record r, unsigned shift, uint32_t address)
+{
+  uint32_t start = object_at(heap, labels, &r, shift, address);
+  return answer(start == 0 ? FOUTERPIN_NO_OBJECT : start == address ? 0 : FOUTERPIN_INSIDE, start, r);
 }
 
 fouterpin_answer plain_start(uint32_t *heap, size_t heap_len, uint16_t *labels, size_t labels_len, uint16_t *links, size_t links_len,
@@ -112,14 +120,25 @@ fouterpin_answer plain_allocate(uint32_t *heap, size_t heap_len, uint16_t *label
   return answer(0, (uint32_t)(object - heap), r);
 }
 
-fouterpin_answer plain_load(const uint32_t *heap, size_t heap_len, const uint16_t *labels, size_t labels_len, const uint16_t *links,
-                            size_t links_len, fouterpin_record r, uint32_t address, uint32_t index)
+fouterpin_answer plain_look_up(const uint32_t *heap, size_t heap_len, const uint16_t *labels, size_t labels_len, const uint16_t *links,
+                               size_t links_len, fouterpin_record r, uint32_t address)
 {
   (void)links;
   if (!good_layout(heap_len, labels, labels_len, links_len, &r))
     return answer(FOUTERPIN_LAYOUT, 0, r);
-  if (!is_start(heap, labels, &r, (unsigned)__builtin_ctz(r.page), address))
-    return answer(FOUTERPIN_NO_OBJECT, 0, r);
+  return looked_up(heap, labels, r, (unsigned)__builtin_ctz(r.page), address);
+}
+
+fouterpin_answer plain_load(const uint32_t *heap, size_t heap_len, const uint16_t *labels, size_t labels_len, const uint16_t *links,
+                            size_t links_len, fouterpin_record r, uint32_t address, uint32_t index)
+{
+  fouterpin_answer where;
+  (void)links;
+  if (!good_layout(heap_len, labels, labels_len, links_len, &r))
+    return answer(FOUTERPIN_LAYOUT, 0, r);
+  where = looked_up(heap, labels, r, (unsigned)__builtin_ctz(r.page), address);
+  if (where.refusal != 0)
+    return where;
   if (index >= (heap[address] >> 16) - 1)
     return answer(FOUTERPIN_INDEX, 0, r);
   return answer(0, heap[address + 1 + index], r);
@@ -128,13 +147,15 @@ fouterpin_answer plain_load(const uint32_t *heap, size_t heap_len, const uint16_
 fouterpin_answer plain_store(uint32_t *heap, size_t heap_len, uint16_t *labels, size_t labels_len, uint16_t *links, size_t links_len,
                              fouterpin_record r, uint32_t address, uint32_t index, uint32_t value)
 {
+  fouterpin_answer where;
   unsigned shift;
   (void)links;
   if (!good_layout(heap_len, labels, labels_len, links_len, &r))
     return answer(FOUTERPIN_LAYOUT, 0, r);
   shift = (unsigned)__builtin_ctz(r.page);
-  if (!is_start(heap, labels, &r, shift, address))
-    return answer(FOUTERPIN_NO_OBJECT, 0, r);
+  where = looked_up(heap, labels, r, shift, address);
+  if (where.refusal != 0)
+    return where;
   if (index >= (heap[address] >> 16) - 1)
     return answer(FOUTERPIN_INDEX, 0, r);
   if (index < (heap[address] & 0xffff) >> 1 && !is_reference(heap, labels, &r, shift, value))

@@ -8,6 +8,8 @@ fouterpin_answer plain_start(uint32_t *heap, size_t heap_len, uint16_t *labels, 
                              fouterpin_record r, uint32_t page, uint32_t pages);
 fouterpin_answer plain_allocate(uint32_t *heap, size_t heap_len, uint16_t *labels, size_t labels_len, uint16_t *links, size_t links_len,
                                 fouterpin_record r, uint32_t d, uint32_t p);
+fouterpin_answer plain_look_up(const uint32_t *heap, size_t heap_len, const uint16_t *labels, size_t labels_len, const uint16_t *links,
+                               size_t links_len, fouterpin_record r, uint32_t address);
 fouterpin_answer plain_load(const uint32_t *heap, size_t heap_len, const uint16_t *labels, size_t labels_len, const uint16_t *links,
                             size_t links_len, fouterpin_record r, uint32_t address, uint32_t index);
 fouterpin_answer plain_store(uint32_t *heap, size_t heap_len, uint16_t *labels, size_t labels_len, uint16_t *links, size_t links_len,

@@ -1,6 +1,6 @@
 /* solver.c: a native solver in small. It makes an object, keeps no address of it but one a word past its header, in a local of its own; and an
    array that fills a page, of which it keeps the address just past the end, as a loop over it does. It collects with its stack as the hints:
-   both stay where they are. Then it collects without hints: they are gone.
+   both stay where they are, and look-up leads from the derived addresses back to them. Then it collects without hints: they are gone.
 
    cc -Iinclude examples/solver.c target/staticlib/libsolver.a -o solver && ./solver
 
@@ -53,6 +53,13 @@ __attribute__((noinline)) static void collect_with_stack(const uint32_t *high)
     collect(low, ((uintptr_t)high - (uintptr_t)low) / sizeof *low);
 }
 
+/* The object that an address leads back to: its own, or the one that it is inside. */
+static uint32_t object_of(uint32_t derived)
+{
+  fouterpin_answer a = fouterpin_look_up(LENT, derived);
+  return a.refusal == FOUTERPIN_INSIDE ? a.value : accepted(a, "look_up");
+}
+
 /* Makes the object and returns the address of the first payload word: one past the header. Data is 1234 at payload word 2. */
 __attribute__((noinline)) static uint32_t make_sample(void)
 {
@@ -72,7 +79,7 @@ __attribute__((noinline)) static uint32_t make_array(void)
 __attribute__((noinline)) static int solve(const uint32_t *high)
 {
   volatile uint32_t inside, past; /* in memory, and so among the hints */
-  uint32_t i;
+  uint32_t i, object, array, sample, last;
   fouterpin_answer a, b;
   accepted(fouterpin_start(LENT, page, pages), "start");
   for (i = 0; i < 12; i++) /* what nobody keeps */
@@ -84,16 +91,18 @@ __attribute__((noinline)) static int solve(const uint32_t *high)
   printf("the array is at %u, and a local holds %u, on page %u and just past page %u\n", (unsigned)past - page, (unsigned)past,
          (unsigned)fouterpin_page_named(past, page, pages), (unsigned)fouterpin_page_named_before(past, page, pages));
   collect_with_stack(high);
-  a = fouterpin_load(LENT, inside - 1, 2);
-  printf("at %u there is: refusal %u, payload word 2 is %u; the root cell holds %u\n", (unsigned)inside - 1, (unsigned)a.refusal, (unsigned)a.value,
-         (unsigned)roots[0]);
-  b = fouterpin_load(LENT, past - page, page - 2);
-  printf("at %u there is: refusal %u, the last word is %u\n", (unsigned)past - page, (unsigned)b.refusal, (unsigned)b.value);
-  if (a.refusal != 0 || a.value != 1234 || b.refusal != 0 || b.value != 5678)
+  object = object_of(inside);
+  array = object_of(past - 1); /* just past the end another object may start; the last word is still inside */
+  sample = accepted(fouterpin_load(LENT, object, 2), "load");
+  last = accepted(fouterpin_load(LENT, array, page - 2), "load");
+  printf("%u is inside the object at %u, whose payload word 2 is %u; the root cell holds %u\n", (unsigned)inside, (unsigned)object,
+         (unsigned)sample, (unsigned)roots[0]);
+  printf("%u is inside the array at %u, whose last word is %u\n", (unsigned)past - 1, (unsigned)array, (unsigned)last);
+  if (object != inside - 1 || sample != 1234 || array != past - page || last != 5678)
     return 1;
   collect(roots, 0);
-  a = fouterpin_load(LENT, inside - 1, 2);
-  b = fouterpin_load(LENT, past - page, page - 2);
+  a = fouterpin_look_up(LENT, inside);
+  b = fouterpin_look_up(LENT, past - 1);
   printf("without hints: refusals %u and %u; the root cell holds %u\n", (unsigned)a.refusal, (unsigned)b.refusal, (unsigned)roots[0]);
   return a.refusal == FOUTERPIN_NO_OBJECT && b.refusal == FOUTERPIN_NO_OBJECT ? 0 : 1;
 }

@@ -1,9 +1,9 @@
 /* fouterpin.h: the calls of Fouterpin, a mostly-copying collected heap (Bartlett 1988), for C.
 
-   The functions are those of the crate `solver`; each is proved equal to document 01's rules, for every input. `rt staticlib solver`
-   writes the archive target/staticlib/libsolver.a, for x86-64 Linux. Of C's library it wants memset, memcpy and memmove at most, and no
-   other; it allocates nothing, keeps no state between calls and never ends the program. Collect takes some 4.5 KB of stack, the others
-   a few hundred bytes. A C program links it as it is:
+   The functions are those of the crate `solver`; each is proved equal to document 01's rules, with Q-1 and Q-2, for every input.
+   `rt staticlib solver` writes the archive target/staticlib/libsolver.a, for x86-64 Linux. Of C's library it wants memset, memcpy and memmove
+   at most, and no other; it allocates nothing, keeps no state between calls and never ends the program. Collect takes some 4.5 KB of stack,
+   the others a few hundred bytes. A C program links it as it is:
 
        cc -Iinclude program.c target/staticlib/libsolver.a -o program
 
@@ -33,11 +33,13 @@
    the hint word and that of the word before it), where they are; it moves every other object that can be reached from those or from a
    root cell; it forgets the rest and zeroes their pages. After it, an address is good only if it was read from a root cell, read from a
    reference of an object that stayed, or named an object on a hinted page. fouterpin_load and fouterpin_store refuse what is no object's
-   address, but a stale address may by chance be another object's.
+   address, and say whether it is inside an object or nothing is there; but a stale address may by chance be another object's, or inside
+   one.
 
    REFUSALS. Each answer begins with a refusal number, 0 where the call was accepted. A refused call has changed nothing: not one
-   word, label, link or root; its value (for collect, its four counts) is 0 and its record is the one given. Tests go in the order of the
-   numbers, except that collect tests 1, 7, 6, 8. */
+   word, label, link or root; its record is the one given, and its value (for collect, its four counts) is 0, except with 10: there it is
+   the address of the object that the address given is inside. Tests go in the order of the numbers, with 10 in the place of 4, except that
+   collect tests 1, 7, 6, 8. (9 is refused by the session program alone.) */
 #ifndef FOUTERPIN_H
 #define FOUTERPIN_H
 
@@ -50,14 +52,15 @@ extern "C" {
 
 enum {
   FOUTERPIN_ACCEPTED = 0,
-  FOUTERPIN_LAYOUT = 1,        /* all five: a wrong length, page size, number of pages or record */
+  FOUTERPIN_LAYOUT = 1,        /* all six: a wrong length, page size, number of pages or record */
   FOUTERPIN_SHAPE = 2,         /* allocate: d is above page - 1, or p above d */
   FOUTERPIN_COLLECT_FIRST = 3, /* allocate: it does not fit in the open page, and a new page would leave too few free to collect */
-  FOUTERPIN_NO_OBJECT = 4,     /* load, store: the address is not that of an object */
+  FOUTERPIN_NO_OBJECT = 4,     /* load, store, look_up: nothing is there; the address is neither an object's nor inside one */
   FOUTERPIN_INDEX = 5,         /* load, store: the index is not below d */
   FOUTERPIN_BAD_REFERENCE = 6, /* store: a value for a reference, collect: a root cell, that is neither 0 nor an object's address */
   FOUTERPIN_UNSOUND = 7,       /* collect: the heap is damaged (the whole of it is tested first) */
-  FOUTERPIN_NO_ROOM = 8        /* collect: the copies might need more pages than are free */
+  FOUTERPIN_NO_ROOM = 8,       /* collect: the copies might need more pages than are free */
+  FOUTERPIN_INSIDE = 10        /* load, store, look_up: the address is inside an object, behind its header; the value is the object's */
 };
 
 /* The control record. */
@@ -69,10 +72,11 @@ typedef struct {
   uint32_t fill;   /* the first unused word's place in the open page: 1 to P; P where there is none */
 } fouterpin_record;
 
-/* What start, allocate, load and store answer. */
+/* What start, allocate, look_up, load and store answer. */
 typedef struct {
   uint32_t refusal; /* 0, or why the call was refused */
-  uint32_t value;   /* allocate: the address; load: the word; start and store: 0 */
+  uint32_t value;   /* allocate and look_up: the object's address; load: the word; start and store: 0. Refused with 10: the address of the
+                       object that the address given is inside; with any other: 0 */
   fouterpin_record record;
 } fouterpin_answer;
 
@@ -97,12 +101,19 @@ fouterpin_answer fouterpin_start(uint32_t *heap, size_t heap_len, uint16_t *labe
 fouterpin_answer fouterpin_allocate(uint32_t *heap, size_t heap_len, uint16_t *labels, size_t labels_len, uint16_t *links, size_t links_len,
                                     fouterpin_record r, uint32_t d, uint32_t p);
 
-/* The payload word at `index`, from 0, of the object at `address`. Writes nothing. Refused: 1, 4, 5. */
+/* Where `address` lands, which may be any word: accepted if it is an object's, which is then the value; refused with 10 if it is inside an
+   object, on one of its payload words, and the value is that object's address; refused with 4 if it is neither: on page 0, on a page that is
+   free, behind the last object of a page in use, or past the heap. So an address derived from an object's leads back to it, as long as it
+   has not gone past its end. Writes nothing. Refused: 1, 4, 10. */
+fouterpin_answer fouterpin_look_up(const uint32_t *heap, size_t heap_len, const uint16_t *labels, size_t labels_len, const uint16_t *links,
+                                   size_t links_len, fouterpin_record r, uint32_t address);
+
+/* The payload word at `index`, from 0, of the object at `address`. Writes nothing. Refused: 1, 4 or 10, 5. */
 fouterpin_answer fouterpin_load(const uint32_t *heap, size_t heap_len, const uint16_t *labels, size_t labels_len, const uint16_t *links,
                                 size_t links_len, fouterpin_record r, uint32_t address, uint32_t index);
 
 /* Writes that word and nothing else. Where it is a reference (index < p), the value must be 0 or an object's address; else any number
-   goes, and no collection follows or corrects it. Refused: 1, 4, 5, 6. */
+   goes, and no collection follows or corrects it. Refused: 1, 4 or 10, 5, 6. A value for a reference that is inside an object is 6 too. */
 fouterpin_answer fouterpin_store(uint32_t *heap, size_t heap_len, uint16_t *labels, size_t labels_len, uint16_t *links, size_t links_len,
                                  fouterpin_record r, uint32_t address, uint32_t index, uint32_t value);
 

@@ -3,6 +3,8 @@
 
    clauses       prints nothing but a tally, and each change that was judged otherwise
 
+   Besides, for each word of that collection's heap before, and past it: in which object the word lies (demand3_object_at).
+
    Not provoked are clauses of demand 3 that follow from those tested before them: that a page in use was hinted or holds a copy (a sound
    page in use has an object, each object has its pair, and none from a hinted page has moved), that no hinted page is freed, that hinted
    objects do not move (each is first paired with its own address), and that no reference followed is dangling (both heaps are sound).
@@ -104,6 +106,23 @@ static demand3_memory lend(const memory *m)
 }
 
 static int judged, wrong;
+
+/* In which object each word lies: those of pages 1 to 3, and in none elsewhere. */
+static void places(void)
+{
+  static const uint32_t objects[] = {8, 8, 8, 11, 11, 0, 0, 0, 16, 16, 16, 16, 20, 20, 0, 0, 24, 24, 0, 0, 0, 0, 0, 0};
+  demand3_memory b = lend(&before);
+  uint32_t at, found, awaited;
+  for (at = 0; at < words + 2; at++) {
+    awaited = at >= page && at < 4 * page ? objects[at - page] : 0;
+    found = demand3_object_at(&b, at);
+    judged++;
+    if (found != awaited) {
+      printf("clauses: word %u lies in the object at %u, and %u was found\n", (unsigned)at, (unsigned)awaited, (unsigned)found);
+      wrong++;
+    }
+  }
+}
 
 /* Judges the case as it now stands, and makes it anew. */
 static void expect(const char *clause)
@@ -229,6 +248,7 @@ static void more_than_the_bound(void)
 int main(void)
 {
   make_case();
+  places();
   expect(NULL);
   soundness();
   pairing();

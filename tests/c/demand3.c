@@ -87,6 +87,20 @@ const char *demand3_unsound(const demand3_memory *m)
   return why;
 }
 
+uint32_t demand3_object_at(const demand3_memory *m, uint32_t address)
+{
+  unsigned char *starts = starts_of(m);
+  uint32_t object = 0;
+  size_t at;
+  if (starts == NULL)
+    return 0;
+  for (at = 0; at < m->heap_len; at++)
+    if (starts[at] && at <= address && address - at < m->heap[at] >> 16)
+      object = (uint32_t)at;
+  free(starts);
+  return object;
+}
+
 /* The search: image[a] is the address after of the object at a before, 0 if not (yet) paired; preimage the other way. The list holds
    the addresses before that are paired and not yet followed. */
 typedef struct {

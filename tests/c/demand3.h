@@ -21,6 +21,9 @@ typedef struct {
 /* NULL if the heap is sound, else the clause that fails. */
 const char *demand3_unsound(const demand3_memory *m);
 
+/* The start of the object that the word at `address` is a part of, header or payload; 0 if there is none. */
+uint32_t demand3_object_at(const demand3_memory *m, uint32_t address);
+
 /* NULL if an accepted collection that made `after` of `before` is as demand 3 has it, else the clause that fails. The four counts are
    hinted, taken, objects, words, as the collection answered them. */
 const char *demand3_collection(const demand3_memory *before, const demand3_memory *after, const uint32_t *hints, size_t hints_len,

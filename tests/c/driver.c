@@ -4,7 +4,8 @@
    bench/plain.c.
    Every slice that a call is lent lies on a mapping of its own between two pages that may not be touched, in turn right before the one
    behind and right behind the one before; the bytes between slice and page are canaries, looked at after each call. Hints are lent on
-   memory that can't be written, and for load so is everything. After a refusal all memory must be as it was.
+   memory that can't be written, and for load and look-up so is everything. After a refusal all memory must be as it was. What load, store
+   and look-up say of an address must be what the objects in memory say, as demand3.c finds them.
 
    driver [-3] [-t] < script
      -3  demand 3: after each accepted collection its pairing is searched for (demand3.c), and a heap that was sound must be sound
@@ -42,6 +43,17 @@ typedef fouterpin_record record;
 typedef fouterpin_answer answer;
 typedef fouterpin_collected collected;
 #endif
+
+/* How often each call gave each refusal: those of include/fouterpin.h, and any other. */
+enum { starts, allocs, loads, stores, looks, collects, pages_asked, befores_asked, needs_asked, calls };
+static const char *const call_names[calls] = {"start", "alloc", "load", "store", "look", "collect", "page", "before", "need"};
+enum { layout = 1, nothing_there = 4, inside = 10, columns = 11 };
+static uint64_t given[calls][columns];
+
+static void counted(int call, uint32_t refusal)
+{
+  given[call][refusal <= 8 ? refusal : refusal == inside ? columns - 2 : columns - 1]++;
+}
 
 static unsigned long line; /* of the script, from 1 */
 
@@ -211,8 +223,10 @@ static int same(const slice *s)
   return memcmp(s->copy, data(s), s->bytes) == 0;
 }
 
+static int looks_up(int call) { return call == loads || call == stores || call == looks; }
+
 /* What holds after every call; `made` is the record that came back. */
-static void after_call(int started, uint32_t refusal, int all_zero, record made)
+static void after_call(int call, uint32_t refusal, int all_zero, record made)
 {
   int which;
   allow(&lent[hints], PROT_READ | PROT_WRITE);
@@ -224,17 +238,42 @@ static void after_call(int started, uint32_t refusal, int all_zero, record made)
     for (which = 0; which < slices; which++)
       if (!same(&lent[which]))
         fail("a refused call changed memory");
-    if (!all_zero)
+    if (refusal == inside && !looks_up(call))
+      fail("a call that looks up no address answered that it is inside an object");
+    if (refusal != inside && !all_zero)
       fail("a refused call answered a value");
     if (made.page != rec.page || made.pages != rec.pages || made.label != rec.label || made.opened != rec.opened || made.fill != rec.fill)
       fail("a refused call changed the record");
   }
-  if (demand_3 && (sound_before || (started && refusal == 0))) {
+  if (demand_3 && (sound_before || (call == starts && refusal == 0))) {
     demand3_memory m = memory_now(made);
     const char *why = demand3_unsound(&m);
     if (why != NULL)
       fail(why);
     checked_calls++;
+  }
+}
+
+/* an object starts at the address, or the address is inside the object that starts at s, or nothing is there. */
+static void check_place(int call, uint32_t address, answer a)
+{
+  demand3_memory before = memory_before(rec);
+  uint32_t s = demand3_object_at(&before, address);
+  if (a.refusal == layout)
+    return;
+  if (a.refusal == nothing_there) {
+    if (s != 0)
+      fail("nothing was said to be where an object is");
+  } else if (a.refusal == inside) {
+    if (s == 0 || s == address)
+      fail("an address was said to be inside an object that is not");
+    if (a.value != s)
+      fail("an address was said to be inside another object than it is");
+  } else {
+    if (s == 0 || s != address)
+      fail("an address was taken for an object's start that is none");
+    if (call == looks && a.value != address)
+      fail("look-up answered another start than the address");
   }
 }
 
@@ -244,20 +283,10 @@ static void print_answer(record r)
          hash_all());
 }
 
-/* How often each call gave each refusal. */
-enum { starts, allocs, loads, stores, collects, pages_asked, befores_asked, needs_asked, calls };
-static const char *const call_names[calls] = {"start", "alloc", "load", "store", "collect", "page", "before", "need"};
-static uint64_t given[calls][10];
-
-static void counted(int call, uint32_t refusal)
-{
-  given[call][refusal < 9 ? refusal : 9]++;
-}
-
 static void run_plain(int call, const uint32_t *n)
 {
   answer a;
-  int which, reads_only = call == loads;
+  int which, reads_only = call == loads || call == looks;
   before_call();
   if (reads_only)
     for (which = heap; which <= links; which++)
@@ -268,12 +297,16 @@ static void run_plain(int call, const uint32_t *n)
     a = CALL(allocate)(words(heap), count(heap), halves(labels), count(labels), halves(links), count(links), rec, n[0], n[1]);
   else if (call == loads)
     a = CALL(load)(words(heap), count(heap), halves(labels), count(labels), halves(links), count(links), rec, n[0], n[1]);
+  else if (call == looks)
+    a = CALL(look_up)(words(heap), count(heap), halves(labels), count(labels), halves(links), count(links), rec, n[0]);
   else
     a = CALL(store)(words(heap), count(heap), halves(labels), count(labels), halves(links), count(links), rec, n[0], n[1], n[2]);
   if (reads_only)
     for (which = heap; which <= links; which++)
       allow(&lent[which], PROT_READ | PROT_WRITE);
-  after_call(call == starts, a.refusal, a.value == 0, a.record);
+  after_call(call, a.refusal, a.value == 0, a.record);
+  if (looks_up(call))
+    check_place(call, n[0], a);
   counted(call, a.refusal);
   rec = a.record;
   printf("%s %" PRIu32 " %" PRIu32, call_names[call], a.refusal, a.value);
@@ -286,7 +319,7 @@ static void run_collect(void)
   before_call();
   c = CALL(collect)(words(heap), count(heap), halves(labels), count(labels), halves(links), count(links), rec, words(roots), count(roots),
                     words(hints), count(hints));
-  after_call(0, c.refusal, c.hinted == 0 && c.taken == 0 && c.objects == 0 && c.words == 0, c.record);
+  after_call(collects, c.refusal, c.hinted == 0 && c.taken == 0 && c.objects == 0 && c.words == 0, c.record);
   if (demand_3 && c.refusal == 0) {
     demand3_memory b = memory_before(rec), a = memory_now(c.record);
     uint32_t counts[4];
@@ -414,7 +447,7 @@ static int run_line(char *text)
     lend(&lent[links], (size_t)numbers[2] * 2, at_end);
     return 1;
   }
-  for (call = starts; call <= stores; call++)
+  for (call = starts; call <= looks; call++)
     if (strcmp(name, call_names[call]) == 0)
       return run_plain(call, numbers), 1;
   if (strcmp(name, "collect") == 0)
@@ -444,11 +477,12 @@ static int run_line(char *text)
 
 static void print_table(void)
 {
-  int call, refusal;
+  int call, column;
+  fprintf(stderr, "table refusal 0 1 2 3 4 5 6 7 8 10 other\n");
   for (call = 0; call < calls; call++) {
     fprintf(stderr, "table %s", call_names[call]);
-    for (refusal = 0; refusal < 10; refusal++)
-      fprintf(stderr, " %" PRIu64, given[call][refusal]);
+    for (column = 0; column < columns; column++)
+      fprintf(stderr, " %" PRIu64, given[call][column]);
     fprintf(stderr, "\n");
   }
   fprintf(stderr, "table collections-searched %" PRIu64 "\ntable sound-after %" PRIu64 "\n", checked_collections, checked_calls);

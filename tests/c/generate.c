@@ -44,10 +44,18 @@ static size_t objects_len;
 
 static uint64_t calls_made;
 
+/* The words of the object whose header stands at this place of a page that ends at `end`; 0 if none stands there. */
+static uint32_t words_at(size_t at, size_t end)
+{
+  uint32_t n = heap[at] >> 16;
+  return heap[at] % 2 == 0 || n == 0 || (heap[at] & 0xffff) / 2 > n - 1 || n > end - at ? 0 : n;
+}
+
 /* The walk over every page in use, for the list of objects. It reads a record that may be damaged, so it goes by the lengths. */
 static void list_objects(void)
 {
   size_t page, at;
+  uint32_t n;
   objects_len = 0;
   if (rec.page == 0 || rec.page > 4096)
     return;
@@ -55,13 +63,8 @@ static void list_objects(void)
     size_t end = (page + 1) * rec.page;
     if (labels[page] == 0)
       continue;
-    for (at = page * rec.page; at < end;) {
-      uint32_t n = heap[at] >> 16;
-      if (heap[at] % 2 == 0 || n == 0 || (heap[at] & 0xffff) / 2 > n - 1 || n > end - at)
-        break;
+    for (at = page * rec.page; at < end && (n = words_at(at, end)) != 0; at += n)
       objects[objects_len++] = (uint32_t)at;
-      at += n;
-    }
   }
 }
 
@@ -101,9 +104,41 @@ static uint32_t near_word(void)
   }
 }
 
+static uint32_t header_at(uint32_t address)
+{
+  return address < heap_len ? heap[address] : 0;
+}
+
+/* An address by where it lands: on an object's first word, the one behind, its last one or any; just past it, where another may start; at its
+   page's stop, or in the tail that begins there; on a free page, on page 0, or past the heap. */
+static uint32_t a_place(void)
+{
+  uint32_t page = rec.page == 0 || rec.page > 4096 ? 8 : rec.page, object = an_object(), words = header_at(object) >> 16;
+  uint32_t end = object - object % page + page, stop = object, n;
+  while (stop < end && (n = words_at(stop, end)) != 0)
+    stop += n;
+  switch (below(10)) {
+  case 0: return object;
+  case 1: return object + 1;
+  case 2: return object + words - 1;
+  case 3: return object + below(words);
+  case 4: return object + words;
+  case 5: return stop;
+  case 6: return stop + below(end - stop);
+  case 7:
+    for (n = below((uint32_t)labels_len); n < labels_len && labels[n] != 0; n++)
+      ;
+    return n * page + below(page);
+  case 8: return below(page);
+  default: return (uint32_t)heap_len + below(3);
+  }
+}
+
 static uint32_t an_address(uint32_t percent_good)
 {
-  return chance(percent_good) && objects_len > 0 ? an_object() : near_word();
+  if (chance(percent_good) && objects_len > 0)
+    return an_object();
+  return chance(60) ? a_place() : near_word();
 }
 
 static uint32_t a_reference(uint32_t percent_good)
@@ -204,6 +239,12 @@ static void do_load(uint32_t address, uint32_t index)
   calls_made++;
 }
 
+static void do_look(uint32_t address)
+{
+  printf("look %" PRIu32 "\n", address);
+  calls_made++;
+}
+
 static void do_store(uint32_t address, uint32_t index, uint32_t value)
 {
   printf("store %" PRIu32 " %" PRIu32 " %" PRIu32 "\n", address, index, value);
@@ -251,11 +292,6 @@ static void some_alloc(uint32_t percent_good)
   do_alloc(d, p);
 }
 
-static uint32_t header_at(uint32_t address)
-{
-  return address < heap_len ? heap[address] : 0;
-}
-
 static uint32_t an_index(uint32_t address, uint32_t percent_good)
 {
   uint32_t d = (header_at(address) >> 16) - 1;
@@ -273,6 +309,11 @@ static void some_load(uint32_t percent_good)
 {
   uint32_t address = an_address(percent_good);
   do_load(address, an_index(address, percent_good));
+}
+
+static void some_look(void)
+{
+  do_look(an_address(10));
 }
 
 static void some_store(uint32_t percent_good)
@@ -405,12 +446,14 @@ static void honest(void)
   steps = 30 + below(150);
   for (i = 0; i < steps; i++) {
     uint32_t r = below(100);
-    if (r < 42)
+    if (r < 40)
       some_alloc(95);
-    else if (r < 75)
+    else if (r < 69)
       some_store(92);
-    else if (r < 88)
+    else if (r < 80)
       some_load(88);
+    else if (r < 88)
+      some_look();
     else if (some_collect(96) == 8 && chance(50)) {
       /* room by hinting a part of the pages */
       for (hints_len = 0; hints_len < labels_len / 2; hints_len++)
@@ -477,10 +520,12 @@ static void some_call(uint32_t percent_good)
   uint32_t r = below(100);
   if (r < 40)
     some_collect(percent_good);
-  else if (r < 60)
+  else if (r < 57)
     some_alloc(percent_good);
-  else if (r < 75)
+  else if (r < 68)
     some_load(percent_good);
+  else if (r < 78)
+    some_look();
   else
     some_store(percent_good);
 }
@@ -655,6 +700,7 @@ static void damaged_run(void)
   print_state();
   if (chance(40)) {
     some_load(92);
+    some_look();
     some_store(92);
   }
   for (i = 0; i < steps; i++)

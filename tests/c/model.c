@@ -1,12 +1,13 @@
-/* model.c: document 01's calls as a model in C, with request Q-1 of document 02, written from the two alone, in their words and order, plain
-   rather than fast. Nothing here was taken from the Rattle code; the tests compare the two. It assumes nothing of what it is lent beyond true lengths.
+/* model.c: document 01's calls as a model in C, with requests Q-1 and Q-2 of document 02, written from the two alone, in their words and
+   order, plain rather than fast. Nothing here was taken from the Rattle code; the tests compare the two. It assumes nothing of what it is
+   lent beyond true lengths.
    tests/c/mutants plants errors in this file by exact lines: a line changed here is changed there. */
 #include "model.h"
 
 #include <stdio.h>
 #include <stdlib.h>
 
-enum { layout = 1, shape, collect_first, no_object, index_too_high, bad_reference, unsound, no_room };
+enum { layout = 1, shape, collect_first, nothing_there, index_too_high, bad_reference, unsound, no_room, inside_object = 10 };
 
 /* What a collection works on. The document keeps its queue in the links; the model has an array of its own and only clears them. */
 typedef struct {
@@ -193,6 +194,19 @@ static model_answer answer(uint32_t refusal, uint32_t value, model_record r)
   return a;
 }
 
+/* Q-2: "an object start, inside the object that starts at s, or nothing", as "0 and the start, 10 and s, or 4 and 0". An object ends on the
+   page that it starts on, so s is looked for on the address's own page. */
+static model_answer where_landed(const uint32_t *heap, const uint16_t *labels, model_record r, uint32_t address)
+{
+  uint32_t s;
+  if (is_object_start(heap, labels, r, address))
+    return answer(0, address, r);
+  for (s = address / r.page * r.page; s < address; s++)
+    if (is_object_start(heap, labels, r, s) && address < s + size_of(heap[s]))
+      return answer(inside_object, s, r);
+  return answer(nothing_there, 0, r);
+}
+
 model_answer model_start(uint32_t *heap, size_t heap_len, uint16_t *labels, size_t labels_len, uint16_t *links, size_t links_len,
                          model_record r, uint32_t page, uint32_t pages)
 {
@@ -242,14 +256,26 @@ model_answer model_allocate(uint32_t *heap, size_t heap_len, uint16_t *labels, s
   return answer(0, address, r);
 }
 
-model_answer model_load(const uint32_t *heap, size_t heap_len, const uint16_t *labels, size_t labels_len, const uint16_t *links,
-                        size_t links_len, model_record r, uint32_t address, uint32_t index)
+model_answer model_look_up(const uint32_t *heap, size_t heap_len, const uint16_t *labels, size_t labels_len, const uint16_t *links,
+                           size_t links_len, model_record r, uint32_t address)
 {
   (void)links;
   if (!good_layout(heap_len, labels, labels_len, links_len, r))
     return answer(layout, 0, r);
-  if (!is_object_start(heap, labels, r, address))
-    return answer(no_object, 0, r);
+  return where_landed(heap, labels, r, address);
+}
+
+/* "Load and store pass this on." */
+model_answer model_load(const uint32_t *heap, size_t heap_len, const uint16_t *labels, size_t labels_len, const uint16_t *links,
+                        size_t links_len, model_record r, uint32_t address, uint32_t index)
+{
+  model_answer where;
+  (void)links;
+  if (!good_layout(heap_len, labels, labels_len, links_len, r))
+    return answer(layout, 0, r);
+  where = where_landed(heap, labels, r, address);
+  if (where.refusal != 0)
+    return where;
   if (index >= size_of(heap[address]) - 1)
     return answer(index_too_high, 0, r);
   return answer(0, heap[address + 1 + index], r);
@@ -258,11 +284,13 @@ model_answer model_load(const uint32_t *heap, size_t heap_len, const uint16_t *l
 model_answer model_store(uint32_t *heap, size_t heap_len, uint16_t *labels, size_t labels_len, uint16_t *links, size_t links_len,
                          model_record r, uint32_t address, uint32_t index, uint32_t value)
 {
+  model_answer where;
   (void)links;
   if (!good_layout(heap_len, labels, labels_len, links_len, r))
     return answer(layout, 0, r);
-  if (!is_object_start(heap, labels, r, address))
-    return answer(no_object, 0, r);
+  where = where_landed(heap, labels, r, address);
+  if (where.refusal != 0)
+    return where;
   if (index >= size_of(heap[address]) - 1)
     return answer(index_too_high, 0, r);
   if (index < refs_of(heap[address]) && !is_reference(heap, labels, r, value))

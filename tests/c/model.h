@@ -1,5 +1,5 @@
-/* model.h: the calls of document 01, with Q-1, as a plain model in C, written from the words alone. See model.c. The types have the fields of
-   include/fouterpin.h's, so that one driver speaks to both. */
+/* model.h: the calls of document 01, with Q-1 and Q-2, as a plain model in C, written from the words alone. See model.c. The types have the
+   fields of include/fouterpin.h's, so that one driver speaks to both. */
 #ifndef MODEL_H
 #define MODEL_H
 
@@ -24,6 +24,8 @@ model_answer model_start(uint32_t *heap, size_t heap_len, uint16_t *labels, size
                          model_record r, uint32_t page, uint32_t pages);
 model_answer model_allocate(uint32_t *heap, size_t heap_len, uint16_t *labels, size_t labels_len, uint16_t *links, size_t links_len,
                             model_record r, uint32_t d, uint32_t p);
+model_answer model_look_up(const uint32_t *heap, size_t heap_len, const uint16_t *labels, size_t labels_len, const uint16_t *links,
+                           size_t links_len, model_record r, uint32_t address);
 model_answer model_load(const uint32_t *heap, size_t heap_len, const uint16_t *labels, size_t labels_len, const uint16_t *links,
                         size_t links_len, model_record r, uint32_t address, uint32_t index);
 model_answer model_store(uint32_t *heap, size_t heap_len, uint16_t *labels, size_t labels_len, uint16_t *links, size_t links_len,

@@ -1,5 +1,6 @@
-/* session.c: document 01's session program over the model (tests/c/model.c), written from the document alone. tests/run-sessions sees that it
-   prints what the compiled program prints; where a request of document 02 moves an answer, it says what the new one is.
+/* session.c: document 01's session program over the model (tests/c/model.c), with request Q-2's operation 8, written from the documents alone.
+   tests/run-sessions sees that it prints what the compiled program prints; where a request of document 02 moves an answer, it says what the
+   new one is.
 
    session < records */
 #include "model.h"
@@ -71,10 +72,10 @@ static model_answer called(model_answer a)
 
 static model_answer perform(uint32_t operation, uint32_t x, uint32_t y, uint32_t i, uint32_t v)
 {
-  static const int uses_x[] = {0, 1, 1, 1, 1, 1, 1, 0}, uses_y[] = {0, 0, 1, 0, 0, 1, 0, 0};
+  static const int uses_x[] = {0, 1, 1, 1, 1, 1, 1, 0, 1}, uses_y[] = {0, 0, 1, 0, 0, 1, 0, 0, 0};
   model_answer a;
   model_collected c;
-  if (operation > 7)
+  if (operation > 8)
     return refused(bad_record);
   if (operation == 0)
     return start(v, i);
@@ -91,10 +92,11 @@ static model_answer perform(uint32_t operation, uint32_t x, uint32_t y, uint32_t
   case 4: return called(model_load(LENT, roots[x], i));
   case 5: return accepted(hints[x] = roots[y] + v);
   case 6: return accepted(roots[x] = 0);
-  default:
+  case 7:
     c = model_collect(LENT, roots, slots, hints, slots);
     rec = c.record;
     return c.refusal != 0 ? refused(c.refusal) : accepted(c.words);
+  default: return called(model_look_up(LENT, roots[x] + v));
   }
 }
 

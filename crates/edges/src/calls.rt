@@ -1,5 +1,6 @@
 // The edges that need a call.
 use crate::line;
+use rules::Answer;
 use rules::Record;
 
 fn none() -> Record {
@@ -217,6 +218,63 @@ fn boundaries_on(heap: &mut [u32], labels: &mut [u16], links: &mut [u16]) {
 
 pub fn boundaries() {
     boundaries_on(&mut [7u32; 96], &mut [7u16; 12], &mut [7u16; 12]);
+}
+
+// What a call answers of an address: refusal and value.
+fn landed(asked: &[u8], a: Answer) {
+    io::write_all(1, asked);
+    io::print_decimal(1, a.refusal as u64);
+    line(b" ", a.value as u64);
+}
+
+fn look_up(asked: &[u8], heap: &[u32], labels: &[u16], links: &[u16], r: Record, address: u32) {
+    landed(asked, heap::look_up(heap, labels, links, r, address));
+}
+
+// One object, from 8 to 15, fills page 1.
+fn look_ups(heap: &[u32], labels: &[u16], links: &[u16], r: Record) {
+    look_up(
+        b"* look-up of 8, an object start: ",
+        heap,
+        labels,
+        links,
+        r,
+        8,
+    );
+    look_up(b"* look-up of 9, inside it: ", heap, labels, links, r, 9);
+    look_up(
+        b"* look-up of 15, its last word: ",
+        heap,
+        labels,
+        links,
+        r,
+        15,
+    );
+    look_up(
+        b"* look-up of 16, just past it: ",
+        heap,
+        labels,
+        links,
+        r,
+        16,
+    );
+    look_up(b"* look-up of 7, on page 0: ", heap, labels, links, r, 7);
+    landed(
+        b"* load from 15: ",
+        heap::load(heap, labels, links, r, 15, 0),
+    );
+}
+
+fn landings_on(heap: &mut [u32], labels: &mut [u16], links: &mut [u16]) {
+    let fresh = heap::start(heap, labels, links, none(), 8, 6).rec;
+    let r = heap::allocate(heap, labels, links, fresh, 7, 0).rec;
+    look_ups(heap, labels, links, r);
+    let a = heap::store(heap, labels, links, r, 15, 0, 0);
+    landed(b"* store at 15: ", a);
+}
+
+pub fn landings() {
+    landings_on(&mut [7u32; 48], &mut [7u16; 6], &mut [7u16; 6]);
 }
 
 // A session of one record, a start with P 128 and this T: what it prints.

@@ -1,4 +1,4 @@
-// Document 01's edges and those of Q-1, run on the code: a line for each, what was asked and what it answers. Its stdout is
+// Document 01's edges and those of Q-1 and Q-2, run on the code: a line for each, what was asked and what it answers. Its stdout is
 // what the papers say. The starred ones are also one table under one theorem (rules/specs/Edges.antt).
 mod calls;
 
@@ -72,5 +72,6 @@ fn main() {
     calls::allocations();
     calls::collections();
     calls::boundaries();
+    calls::landings();
     calls::sessions();
 }

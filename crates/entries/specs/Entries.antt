@@ -11,7 +11,7 @@ use Rattle.entries.specs.declared.Next.the-variants.{Whole, Partial, Don
 use Rattle.entries.specs.declared.Operand.{Operand}
 use Rattle.entries.specs.declared.Operand.the-variants.{Root, Number}
 use Rattle.entries.specs.declared.Step.{Step}
-use Rattle.entries.specs.declared.Step.the-variants.{Start, Allocate, Store, Load, Hint, Clear, Collect, Bad}
+use Rattle.entries.specs.declared.Step.the-variants.{Start, Allocate, Store, Load, Hint, Clear, Collect, LookUp, Bad}
 
 -- "v (four bytes, low first)"
 abbrev pub wordAt : List ℕ → ℕ → ℕ
@@ -44,8 +44,10 @@ decode e =
     (cond (eqb (e .op) 6) (Clear (e .x))
     -- 7 collect
     (cond (eqb (e .op) 7) Collect
-    -- "operation above 7"
-    Bad)))))))
+    -- Q-2: 8 "looks up root x plus v, modulo 2^32"
+    (cond (eqb (e .op) 8) (LookUp (e .x) (e .v))
+    -- "9 begins above operation 8"
+    Bad))))))))
 
 -- "There are 16 root cells and 16 hint words": refused 9 are "a used slot above 15; before any accepted start, any operation
 -- but 0"
@@ -59,7 +61,7 @@ abbrev pub operandSlots : Operand → List ℕ
 operandSlots (Root y) = y ∷ []
 operandSlots (Number v) = []
 
--- Not refused 9 at once, by the slots that each operation uses. For a start 9 comes after 1 (Session.antt); "operation above 7"
+-- Not refused 9 at once, by the slots that each operation uses. For a start 9 comes after 1 (Session.antt); an operation above 8
 -- is never allowed.
 abbrev pub isAllowed : Bool → Step → Bool
 isAllowed begun (Start P T) = true
@@ -69,4 +71,5 @@ isAllowed begun (Load x i) = mayUse begun (x ∷ [])
 isAllowed begun (Hint x y v) = mayUse begun (x ∷ y ∷ [])
 isAllowed begun (Clear x) = mayUse begun (x ∷ [])
 isAllowed begun Collect = mayUse begun []
+isAllowed begun (LookUp x v) = mayUse begun (x ∷ [])
 isAllowed begun Bad = false

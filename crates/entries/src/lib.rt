@@ -39,6 +39,7 @@ pub enum Step {
     Hint { x: u32, y: u32, v: u32 },
     Clear { x: u32 },
     Collect,
+    LookUp { x: u32, v: u32 },
     Bad,
 }
 
@@ -136,6 +137,7 @@ pub fn decode(e: Entry) -> Step
         },
         6 => Step::Clear { x: e.x },
         7 => Step::Collect,
+        8 => Step::LookUp { x: e.x, v: e.v },
         _ => Step::Bad,
     }
 }
@@ -169,6 +171,7 @@ pub fn is_allowed(begun: bool, step: Step) -> bool
         Step::Hint { x, y, v: _ } => may_use(begun, x, y),
         Step::Clear { x } => may_use(begun, x, 0),
         Step::Collect => begun,
+        Step::LookUp { x, v: _ } => may_use(begun, x, 0),
         Step::Bad => false,
     }
 }

@@ -19,12 +19,12 @@ use Rattle.rules.specs.declared.Record.{Record}
 use Rattle.rules.specs.declared.Found.{Found}
 use Rattle.rules.specs.declared.Found.the-variants.{Start, Inside, Nothing}
 use Rattle.rules.proofs.Found.{the-type}
-use Rattle.rules.specs.Calls.{Outcome, refused, onStart, withObject}
+use Rattle.rules.specs.Calls.{Outcome, told, onStart, withObject}
 use Rattle.rules.specs.Tests.{and-is}
 use Rattle.rules.specs.Ranges.{at, from, each}
 use Rattle.rules.specs.Header.{headerOf, sizeOf, isHeader}
 use Rattle.rules.specs.Lent.{Lent, lent, opening, isValid}
-use Rattle.rules.specs.Walk.{behind, starts, stop, lookUp}
+use Rattle.rules.specs.Walk.{behind, starts, stop, found}
 use Rattle.rules.specs.Sound.{isBlank, isFillSound, refsGood, isUsedSound, Valid}
 use Rattle.laws.specs.Headers.{header-says}
 use Rattle.laws.specs.Valid.{valid-laid}
@@ -68,17 +68,17 @@ pub object-first : (m : Lent) (g d p : ℕ) (labels : List ℕ)
 unfolding withObject
 object-first m g d p labels = rw (add-zero (g * m .rec .page), zero-add (d + 1))
 
--- ---- look-up
+-- ---- what is found
 
--- an answer of look-up that is not a start is refused 4; a `match` knows the answer by its tag
-pub not-start : (f : Found) → OneOf (1 ∷ (2 ∷ [])) (tagOf the-type f) → (m : Lent) (go : ℕ → Outcome) → onStart f m go ≡ refused 4 m
-not-start (Start w) (inl e) m go = absurd (omega arith)
-not-start (Start w) (inr e) m go = absurd (omega arith)
-not-start (Inside s) k m go = refl
-not-start Nothing k m go = refl
+-- where no object start is found, look-up's answer is passed on; a `match` knows what was found by its tag
+pub not-start : (f : Found) → OneOf (1 ∷ (2 ∷ [])) (tagOf the-type f) → (a : ℕ) (m : Lent) (go : ℕ → Outcome) → onStart f a m go ≡ told f a m
+not-start (Start w) (inl e) a m go = absurd (omega arith)
+not-start (Start w) (inr e) a m go = absurd (omega arith)
+not-start (Inside s) k a m go = refl
+not-start Nothing k a m go = refl
 
 -- an object that was found has a size, and lies in the heap
-pub found-within : (m : Lent) (a w : ℕ) → isValid m ≡ true → lookUp m a ≡ Start w → (1 ≤ sizeOf w) × (a + sizeOf w ≤ length (m .heap))
+pub found-within : (m : Lent) (a w : ℕ) → isValid m ≡ true → found m a ≡ Start w → (1 ≤ sizeOf w) × (a + sizeOf w ≤ length (m .heap))
 found-within m a w v f =
     let o = found-object m a w f in
     let P = placed m a (valid-laid m v) (o .0) in

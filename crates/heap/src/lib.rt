@@ -1,4 +1,4 @@
-// Start, allocate, load and store over lent memory. Each answers every input: its contract is one equation with its
+// Start, allocate, look-up, load and store over lent memory. Each answers every input: its contract is one equation with its
 // definition in `rules`, refusals included. The checks go in the order of the table of refusals.
 mod object;
 pub mod sound;
@@ -15,7 +15,7 @@ ghost use mathlib.Core.Path.{_≡_};
 ghost use mathlib.Core.List.{List};
 ghost use Prim.Native.Nat.{ℕ};
 ghost use Rattle.rules.specs.Lent.{lent};
-ghost use Rattle.rules.specs.Calls.{outcome, refused, accepted, start, allocate, load, mayStore, store};
+ghost use Rattle.rules.specs.Calls.{outcome, refused, inside, accepted, start, allocate, told, lookUp, load, mayStore, store};
 
 // A refused call's answer: its number, value 0, and the record it was given.
 fn refused(refusal: u32, r: Record) -> Answer
@@ -24,6 +24,17 @@ fn refused(refusal: u32, r: Record) -> Answer
     Answer {
         refusal,
         value: 0,
+        rec: r,
+    }
+}
+
+// Q-2's refusal, whose value is not 0: the address is inside the object that starts at `start`.
+fn inside(start: u32, r: Record) -> Answer
+    ensures { λ x. ⌜ ((heap labels links : List ℕ) → outcome x heap labels links ≡ inside start (lent heap labels links r)) ⌝ }
+{
+    Answer {
+        refusal: 10,
+        value: start,
         rec: r,
     }
 }
@@ -105,6 +116,27 @@ pub fn allocate(
     accepted(at, r.opening(g, n))
 }
 
+// What look-up answers where this is found at the address.
+fn told(found: Found, address: u32, r: Record) -> Answer
+    ensures { λ x. ⌜ ((heap labels links : List ℕ) → outcome x heap labels links ≡ told found address (lent heap labels links r)) ⌝ }
+{
+    match found {
+        Found::Start(_) => accepted(address, r),
+        Found::Inside(s) => inside(s, r),
+        Found::Nothing => refused(4, r),
+    }
+}
+
+// An object starts at the address, the address is inside one, or nothing is there.
+pub fn look_up(heap: &[u32], labels: &[u16], links: &[u16], r: Record, address: u32) -> Answer
+    ensures { λ x. ⌜ outcome x (now (heap .entry)) (now (labels .entry)) (now (links .entry)) ≡ lookUp (lent (now (heap .entry)) (now (labels .entry)) (now (links .entry)) r) address ⌝ }
+{
+    if !record::is_valid(heap, labels, links, r) {
+        return refused(1, r);
+    }
+    told(walk::find(heap, labels, r, address), address, r)
+}
+
 // The payload word of that index, of the object that starts at the address.
 pub fn load(
     heap: &[u32],
@@ -119,9 +151,9 @@ pub fn load(
     if !record::is_valid(heap, labels, links, r) {
         return refused(1, r);
     }
-    let found = walk::look_up(heap, labels, r, address);
+    let found = walk::find(heap, labels, r, address);
     let Found::Start(w) = found else {
-        return refused(4, r);
+        return told(found, address, r);
     };
     if header::size_of(w) - 1 <= index as usize {
         return refused(5, r);
@@ -155,9 +187,9 @@ pub fn store(
     if !record::is_valid(heap, labels, links, r) {
         return refused(1, r);
     }
-    let found = walk::look_up(heap, labels, r, address);
+    let found = walk::find(heap, labels, r, address);
     let Found::Start(w) = found else {
-        return refused(4, r);
+        return told(found, address, r);
     };
     if header::size_of(w) - 1 <= index as usize {
         return refused(5, r);

@@ -15,9 +15,9 @@ use Rattle.rules.specs.Ranges.{at, each}
 use Rattle.rules.specs.Header.{sizeOf, refsOf}
 use Rattle.rules.specs.Pages.{pageAtStart, pagesUsed, pagesNeeded}
 use Rattle.rules.specs.Lent.{Lent, isLaid, isValid}
-use Rattle.rules.specs.Walk.{isReference, lookUp}
+use Rattle.rules.specs.Walk.{isReference, found}
 use Rattle.rules.specs.Sound.{IsObject, refs, payload, Valid, isSound, Sound}
-use Rattle.rules.specs.Calls.{Outcome, refused, accepted, started, start, withObject, goodShape, fitsOpen, mayTake, newPage, allocate, load, mayStore, stored, store}
+use Rattle.rules.specs.Calls.{Outcome, refused, inside, accepted, started, start, withObject, goodShape, fitsOpen, mayTake, newPage, allocate, lookUp, load, mayStore, stored, store}
 use Rattle.rules.specs.Collection.{plainly, collection}
 use Rattle.rules.specs.Collect.{CollectOutcome, unhinted, hasRoom, refusalOfCollect, acceptedCollect, collect}
 use Rattle.laws.specs.Lists.{each-true}
@@ -25,13 +25,17 @@ use Rattle.laws.specs.Valid.{valid-says, valid-layout}
 use Rattle.laws.specs.LookUp.{reference-says, found-object}
 use Rattle.laws.specs.Sound.{sound-says}
 use Rattle.laws.specs.Walk.{size}
-use Rattle.kept.specs.Refusals.{by-test, by-look-up}
+use Rattle.kept.specs.Refusals.{by-test, by-found, look-up-on}
 use Rattle.laws.specs.Collect.{collect-refusal}
 
 -- no refusal but 0 is 0
 not-accepted : {A : Type 0} (e : ℕ) (m : Lent) → 1 ≤ e → refused e m .refusal ≡ 0 → A
 unfolding refused
 not-accepted e m p z = absurd (omega arith)
+
+not-inside : {A : Type 0} (m : Lent) (s : ℕ) → inside s m .refusal ≡ 0 → A
+unfolding inside
+not-inside m s z = absurd (omega arith)
 
 -- ---- start
 
@@ -87,7 +91,23 @@ allocate-says m d p =
           placed = w;
         }
 
--- ---- load and store
+-- ---- look-up, load and store
+
+pub record LookUpOk (m : Lent) (a : ℕ) (o : Outcome) : Type 0 where
+  pub valid : Valid m
+  pub object : IsObject m a
+  pub is : o ≡ accepted a m
+
+pub look-up-says : (m : Lent) (a : ℕ) → lookUp m a .refusal ≡ 0 → LookUpOk m a (lookUp m a)
+unfolding lookUp
+look-up-says m a =
+    rw (look-up-on m a (found m a))
+    (by-test Ok (isValid m) _ _ (λ valid.
+    by-found Ok m a (found m a) _ (λ w at z. record { valid = valid-says m valid; object = found-object m a w at .0; is = refl })
+    (λ s e. not-inside m s) (λ z. not-accepted 4 m (omega arith) z)) (λ e z. not-accepted 1 m (omega arith) z))
+  where
+    Ok : Outcome → Type 0
+    Ok o = o .refusal ≡ 0 → LookUpOk m a o
 
 -- payload word i of the object at a
 pub record PayloadOk (m : Lent) (a i : ℕ) : Type 0 where
@@ -95,7 +115,7 @@ pub record PayloadOk (m : Lent) (a i : ℕ) : Type 0 where
   pub object : IsObject m a
   pub index : i + 1 < size (m .heap) a
 
-payload-says : (m : Lent) (a i w : ℕ) → isValid m ≡ true → lookUp m a ≡ Start w → ltb i (sizeOf w - 1) ≡ true → PayloadOk m a i × (w ≡ at (m .heap) a)
+payload-says : (m : Lent) (a i w : ℕ) → isValid m ≡ true → found m a ≡ Start w → ltb i (sizeOf w - 1) ≡ true → PayloadOk m a i × (w ≡ at (m .heap) a)
 payload-says m a i w v f x =
     let o = found-object m a w f in
     let q = ltb-true i (sizeOf w - 1) x in
@@ -109,9 +129,9 @@ pub load-says : (m : Lent) (a i : ℕ) → load m a i .refusal ≡ 0 → LoadOk 
 unfolding load
 load-says m a i =
     by-test Ok (isValid m) _ _ (λ valid.
-    by-look-up Ok m (lookUp m a) _ (λ w found.
-    by-test Ok (ltb i (sizeOf w - 1)) _ _ (λ index z. record { word = payload-says m a i w valid found index .0; is = refl })
-    (λ e z. not-accepted 5 m (omega arith) z)) (λ z. not-accepted 4 m (omega arith) z)) (λ e z. not-accepted 1 m (omega arith) z)
+    by-found Ok m a (found m a) _ (λ w at.
+    by-test Ok (ltb i (sizeOf w - 1)) _ _ (λ index z. record { word = payload-says m a i w valid at index .0; is = refl })
+    (λ e z. not-accepted 5 m (omega arith) z)) (λ s e. not-inside m s) (λ z. not-accepted 4 m (omega arith) z)) (λ e z. not-accepted 1 m (omega arith) z)
   where
     Ok : Outcome → Type 0
     Ok o = o .refusal ≡ 0 → LoadOk m a i o
@@ -125,12 +145,12 @@ pub store-says : (m : Lent) (a i v : ℕ) → store m a i v .refusal ≡ 0 → S
 unfolding store mayStore
 store-says m a i v =
     by-test Ok (isValid m) _ _ (λ valid.
-    by-look-up Ok m (lookUp m a) _ (λ w found.
+    by-found Ok m a (found m a) _ (λ w at.
     by-test Ok (ltb i (sizeOf w - 1)) _ _ (λ index.
     by-test Ok (mayStore m w i v) _ _ (λ may z.
-    let q = payload-says m a i w valid found index in
+    let q = payload-says m a i w valid at index in
     record { word = q .0; value = λ h. value w may (rw (sym (q .1)) at h); is = refl })
-    (λ e z. not-accepted 6 m (omega arith) z)) (λ e z. not-accepted 5 m (omega arith) z)) (λ z. not-accepted 4 m (omega arith) z))
+    (λ e z. not-accepted 6 m (omega arith) z)) (λ e z. not-accepted 5 m (omega arith) z)) (λ s e. not-inside m s) (λ z. not-accepted 4 m (omega arith) z))
     (λ e z. not-accepted 1 m (omega arith) z)
   where
     Ok : Outcome → Type 0

@@ -5,7 +5,6 @@ use mathlib.Core.Logic.{_⊎_, inl, inr}
 use mathlib.Core.List.{[], List·Memᴰ, List·Memᴰ·not-nil}
 use Prim.Native.Nat.{ℕ, _+_, _*_, _-_, _/_, _≤_, _<_}
 use native.Mathlib.Nat.{add-zero}
-use native.Mathlib.Decide.{ℕ-discrete}
 use native.Mathlib.Omega.{arith}
 use lib.ListN.{set, length-set}
 use lib.Seq.{getD-set-same, getD-set-other}
@@ -20,7 +19,7 @@ use Rattle.laws.specs.Pages.{on-page}
 use Rattle.laws.specs.Walk.{Steps, stops, page-steps}
 use Rattle.laws.specs.FreePages.{Lowest, lowest-free}
 use Rattle.laws.specs.Objects.{page-pos, label-used, met-object}
-use Rattle.kept.specs.Refusals.{allocate-refused}
+use Rattle.kept.specs.Refusals.{by-refusal, allocate-refused}
 use Rattle.kept.specs.Accepted.{AtFill, OnNewPage, AllocateOk, allocate-says}
 use Rattle.kept.specs.Place.{Place, placed-sound}
 
@@ -82,12 +81,9 @@ module _ (m : Lent) (S : Sound m) (d p : ℕ) where
 
 pub allocate-sound : (m : Lent) (d p : ℕ) → Sound m → Sound (allocate m d p .lent)
 unfolding accepted
-allocate-sound m d p S = go (ℕ-discrete (allocate m d p .refusal) 0)
+allocate-sound m d p S =
+    by-refusal (allocate m d p) (λ z. let ok = allocate-says m d p z in made _ ok (ok .placed)) (λ n. subst Sound (sym (allocate-refused m d p n .lent)) S)
   where
     made : (o : Outcome) → AllocateOk m d p o → AtFill m d p o ⊎ OnNewPage m d p o → Sound (o .lent)
     made o ok (inl a) = subst (λ (o : Outcome). Sound (o .lent)) (sym (a .is)) (placed-sound m S _ _ d p _ _ (place-at-fill m S d p (a .fits) (ok .refs)))
     made o ok (inr n) = subst (λ (o : Outcome). Sound (o .lent)) (sym (n .is)) (placed-sound m S _ _ d p _ _ (place-new m S d p (n .room) (ok .small) (ok .refs)))
-
-    go : Dec (allocate m d p .refusal ≡ 0) → Sound (allocate m d p .lent)
-    go (yes z) = let ok = allocate-says m d p z in made _ ok (ok .placed)
-    go (no n) = subst Sound (sym (allocate-refused m d p n .lent)) S

@@ -1,10 +1,11 @@
--- Refusals: the number that each call gives, as the chain of its tests; and that a refused call changes nothing and answers
--- zeros. All of it holds of every memory, sound or not.
+-- Refusals: the number that each call gives, as the chain of its tests; and demand 1, that a refused call changes nothing and
+-- answers zeros, but for 10. All of it holds of every memory, sound or not.
 use mathlib.Core.Path.{_≡_, refl, ap, _∙_}
 use mathlib.Core.Logic.{_≢_}
 use mathlib.Core.Bool.{Bool, true, false, cond}
 use mathlib.Core.List.{List}
 use Prim.Native.Nat.{ℕ, _-_}
+use native.Mathlib.Decide.{ℕ-discrete}
 use native.Mathlib.Omega.{arith}
 use lib.Dec.{ltb}
 use borrow.Author.Tests.{ne-eqb}
@@ -14,10 +15,12 @@ use Rattle.rules.specs.Ranges.{at}
 use Rattle.rules.specs.Header.{sizeOf}
 use Rattle.rules.specs.Pages.{pageAtStart}
 use Rattle.rules.specs.Lent.{Lent, isLaid, isValid}
-use Rattle.rules.specs.Walk.{isStart, lookUp}
-use Rattle.rules.specs.Calls.{Outcome, refused, accepted, start, goodShape, fitsOpen, mayTake, allocate, onStart, load, mayStore, store}
-use Rattle.rules.specs.Collect.{CollectOutcome, refusalOfCollect, refusedCollect, collect}
-use Rattle.laws.specs.LookUp.{wasStart, found-start, found-is}
+use Rattle.rules.specs.Walk.{found}
+use Rattle.rules.specs.Calls.{Outcome, refused, inside, accepted, start, goodShape, fitsOpen, mayTake, allocate, told, lookUp, onStart, load, mayStore, store}
+use Rattle.rules.specs.Collect.{refusalOfCollect, refusedCollect, collect}
+use Rattle.rules.specs.Demands.{Same, SameAt, SameCollected}
+use Rattle.laws.specs.LookUp.{found-object}
+use Rattle.laws.specs.Landed.{found-inside}
 use Rattle.laws.specs.Collect.{collect-refusal}
 
 -- what holds where a test passes, and where it does not, holds
@@ -25,12 +28,26 @@ pub by-test : {A : Type 0} (Q : A → Type 0) (b : Bool) (x y : A) → (b ≡ tr
 by-test Q true x y f g = f refl
 by-test Q false x y f g = g refl
 
--- and so for look-up: it finds an object start, or the refusal is 4
-pub by-look-up : (Q : Outcome → Type 0) (m : Lent) (f : Found) (go : ℕ → Outcome)
-    → ((w : ℕ) → f ≡ Start w → Q (go w)) → Q (refused 4 m) → Q (onStart f m go)
-by-look-up Q m (Start w) go start none = start w refl
-by-look-up Q m (Inside s) go start none = none
-by-look-up Q m Nothing go start none = none
+-- what an accepted call gives and a refused one too, every call gives
+pub by-refusal : {Q : Type 0} (o : Outcome) → (o .refusal ≡ 0 → Q) → (o .refusal ≢ 0 → Q) → Q
+by-refusal {Q} o f g = go (ℕ-discrete (o .refusal) 0)
+  where
+    go : Dec (o .refusal ≡ 0) → Q
+    go (yes e) = f e
+    go (no n) = g n
+
+-- and so for what is found at an address: an object start, or the inside of an object and refusal 10, or nothing and 4
+pub by-found : (Q : Outcome → Type 0) (m : Lent) (a : ℕ) (f : Found) (go : ℕ → Outcome)
+    → ((w : ℕ) → f ≡ Start w → Q (go w)) → ((s : ℕ) → f ≡ Inside s → Q (inside s m)) → Q (refused 4 m) → Q (onStart f a m go)
+by-found Q m a (Start w) go start within none = start w refl
+by-found Q m a (Inside s) go start within none = within s refl
+by-found Q m a Nothing go start within none = none
+
+-- look-up, as a call that goes on from an object start and answers it
+pub look-up-on : (m : Lent) (a : ℕ) (f : Found) → told f a m ≡ onStart f a m (λ w. accepted a m)
+look-up-on m a (Start w) = refl
+look-up-on m a (Inside s) = refl
+look-up-on m a Nothing = refl
 
 -- ---- the numbers
 
@@ -49,42 +66,39 @@ unfolding allocate accepted refused
 allocate-refusal m d p =
     cond-refusal (isValid m) _ _ (cond-refusal (goodShape m d p) _ _ (cond-refusal (fitsOpen m d) _ _ refl (cond-refusal (mayTake m) _ _ refl refl)) refl) refl
 
--- look-up finds an object start, with its header, or the refusal is 4
-on-start-refusal : (m : Lent) (a : ℕ) (go : ℕ → Outcome) → onStart (lookUp m a) m go .refusal ≡ cond (isStart m a) (go (at (m .heap) a) .refusal) 4
-unfolding refused
-on-start-refusal m a go = by (isStart m a) refl
-  where
-    none : (f : Found) → wasStart f ≡ false → onStart f m go .refusal ≡ 4
-    none (Start w) e = absurd (let z : _≡_ {A = ℕ} 0 1 = cc in omega arith)
-    none (Inside s) e = refl
-    none Nothing e = refl
+-- the number where this is found at an address; n where it is an object start
+abbrev pub numberAt : Found → ℕ → ℕ
+numberAt (Start w) n = n
+numberAt (Inside s) n = 10
+numberAt Nothing n = 4
 
-    by : (b : Bool) → isStart m a ≡ b → onStart (lookUp m a) m go .refusal ≡ cond b (go (at (m .heap) a) .refusal) 4
-    by true e = ap (λ (f : Found). onStart f m go .refusal) (found-start m a e)
-    by false e = none (lookUp m a) (found-is m a ∙ e)
+on-start-refusal : (m : Lent) (a : ℕ) (go : ℕ → Outcome) {n : ℕ} → go (at (m .heap) a) .refusal ≡ n → onStart (found m a) a m go .refusal ≡ numberAt (found m a) n
+unfolding refused inside
+on-start-refusal m a go {n} q = by (found m a) refl
+  where
+    by : (f : Found) → found m a ≡ f → onStart f a m go .refusal ≡ numberAt f n
+    by (Start w) e = ap (λ (w : ℕ). go w .refusal) (found-object m a w e .1) ∙ q
+    by (Inside s) e = refl
+    by Nothing e = refl
+
+pub look-up-refusal : (m : Lent) (a : ℕ) → lookUp m a .refusal ≡ cond (isValid m) (numberAt (found m a) 0) 1
+unfolding lookUp accepted refused
+look-up-refusal m a = rw (look-up-on m a (found m a)) (cond-refusal (isValid m) _ _ (on-start-refusal m a _ refl) refl)
 
 pub load-refusal : (m : Lent) (a i : ℕ) → load m a i .refusal
-    ≡ cond (isValid m) (cond (isStart m a) (cond (ltb i (sizeOf (at (m .heap) a) - 1)) 0 5) 4) 1
+    ≡ cond (isValid m) (numberAt (found m a) (cond (ltb i (sizeOf (at (m .heap) a) - 1)) 0 5)) 1
 unfolding load accepted refused
 load-refusal m a i =
-    cond-refusal (isValid m) _ _
-    (on-start-refusal m a _ ∙ ap (λ (n : ℕ). cond (isStart m a) n 4) (cond-refusal (ltb i (sizeOf (at (m .heap) a) - 1)) _ _ refl refl)) refl
+    cond-refusal (isValid m) _ _ (on-start-refusal m a _ (cond-refusal (ltb i (sizeOf (at (m .heap) a) - 1)) _ _ refl refl)) refl
 
 pub store-refusal : (m : Lent) (a i v : ℕ) → store m a i v .refusal
-    ≡ cond (isValid m) (cond (isStart m a) (cond (ltb i (sizeOf (at (m .heap) a) - 1)) (cond (mayStore m (at (m .heap) a) i v) 0 6) 5) 4) 1
+    ≡ cond (isValid m) (numberAt (found m a) (cond (ltb i (sizeOf (at (m .heap) a) - 1)) (cond (mayStore m (at (m .heap) a) i v) 0 6) 5)) 1
 unfolding store accepted refused
 store-refusal m a i v =
     cond-refusal (isValid m) _ _
-    (on-start-refusal m a _ ∙ ap (λ (n : ℕ). cond (isStart m a) n 4)
-    (cond-refusal (ltb i (sizeOf (at (m .heap) a) - 1)) _ _ (cond-refusal (mayStore m (at (m .heap) a) i v) _ _ refl refl) refl)) refl
+    (on-start-refusal m a _ (cond-refusal (ltb i (sizeOf (at (m .heap) a) - 1)) _ _ (cond-refusal (mayStore m (at (m .heap) a) i v) _ _ refl refl) refl)) refl
 
 -- ---- a refused call changes nothing
-
--- "A refused call returns its number, value 0 .. and the record it was given .., and every lent word, label, link .. stays
--- the same."
-pub record Same (m : Lent) (o : Outcome) : Type 0 where
-  pub lent : o .lent ≡ m
-  pub value : o .value ≡ 0
 
 abbrev pub RefusedSame : Lent → Outcome → Type 0
 RefusedSame m o = o .refusal ≢ 0 → Same m o
@@ -110,34 +124,49 @@ allocate-refused m d p =
     by-test (RefusedSame m) (mayTake m) _ _ (λ room. accepted-so m _ _)
     (λ e. refused-so 3 m))) (λ e. refused-so 2 m)) (λ e. refused-so 1 m)
 
-pub load-refused : (m : Lent) (a i : ℕ) → RefusedSame m (load m a i)
-unfolding load
-load-refused m a i =
-    by-test (RefusedSame m) (isValid m) _ _ (λ valid.
-    by-look-up (RefusedSame m) m (lookUp m a) _ (λ w found.
-    by-test (RefusedSame m) (ltb i (sizeOf w - 1)) _ _ (λ index. accepted-so m _ _)
-    (λ e. refused-so 5 m)) (refused-so 4 m)) (λ e. refused-so 1 m)
+-- a call with address a
+abbrev pub RefusedAt : Lent → ℕ → Outcome → Type 0
+RefusedAt m a o = o .refusal ≢ 0 → SameAt m a o
 
-pub store-refused : (m : Lent) (a i v : ℕ) → RefusedSame m (store m a i v)
-unfolding store
-store-refused m a i v =
-    by-test (RefusedSame m) (isValid m) _ _ (λ valid.
-    by-look-up (RefusedSame m) m (lookUp m a) _ (λ w found.
-    by-test (RefusedSame m) (ltb i (sizeOf w - 1)) _ _ (λ index.
-    by-test (RefusedSame m) (mayStore m w i v) _ _ (λ value. accepted-so m _ _)
-    (λ e. refused-so 6 m)) (λ e. refused-so 5 m)) (refused-so 4 m)) (λ e. refused-so 1 m)
+module _ (m : Lent) (a : ℕ) where
+  refused-at : (e : ℕ) → e ≢ 10 → RefusedAt m a (refused e m)
+  unfolding refused
+  refused-at e k n = record { lent = refl; value = λ _. refl; inside = λ z. absurd (k z) }
+
+  inside-at : (s : ℕ) → found m a ≡ Inside s → RefusedAt m a (inside s m)
+  unfolding inside
+  inside-at s f n = record { lent = refl; value = λ k. absurd (k refl); inside = λ _. found-inside m a s f }
+
+  accepted-at : (v : ℕ) (m′ : Lent) → RefusedAt m a (accepted v m′)
+  unfolding accepted
+  accepted-at v m′ n = absurd (n refl)
+
+  -- look-up, load and store: what follows from an object start is all that differs
+  on-start-refused : (go : ℕ → Outcome) → ((w : ℕ) → RefusedAt m a (go w)) → RefusedAt m a (cond (isValid m) (onStart (found m a) a m go) (refused 1 m))
+  on-start-refused go so =
+      by-test (RefusedAt m a) (isValid m) _ _
+      (λ valid. by-found (RefusedAt m a) m a (found m a) go (λ w f. so w) inside-at (refused-at 4 (omega arith)))
+      (λ e. refused-at 1 (omega arith))
+
+  pub look-up-refused : RefusedAt m a (lookUp m a)
+  unfolding lookUp
+  look-up-refused = rw (look-up-on m a (found m a)) (on-start-refused _ (λ w. accepted-at a m))
+
+  pub load-refused : (i : ℕ) → RefusedAt m a (load m a i)
+  unfolding load
+  load-refused i =
+      on-start-refused _ (λ w. by-test (RefusedAt m a) (ltb i (sizeOf w - 1)) _ _ (λ index. accepted-at _ _) (λ e. refused-at 5 (omega arith)))
+
+  pub store-refused : (i v : ℕ) → RefusedAt m a (store m a i v)
+  unfolding store
+  store-refused i v =
+      on-start-refused _ (λ w.
+      by-test (RefusedAt m a) (ltb i (sizeOf w - 1)) _ _ (λ index.
+      by-test (RefusedAt m a) (mayStore m w i v) _ _ (λ value. accepted-at _ _) (λ e. refused-at 6 (omega arith))) (λ e. refused-at 5 (omega arith)))
 
 -- collect's four counts are zeros, and the root cells stay
-pub record CollectSame (m : Lent) (cells : List ℕ) (o : CollectOutcome) : Type 0 where
-  pub hinted : o .hinted ≡ 0
-  pub taken : o .taken ≡ 0
-  pub objects : o .objects ≡ 0
-  pub words : o .words ≡ 0
-  pub lent : o .lent ≡ m
-  pub roots : o .roots ≡ cells
-
-pub collect-refused : (m : Lent) (roots hints : List ℕ) → collect m roots hints .refusal ≢ 0 → CollectSame m roots (collect m roots hints)
+pub collect-refused : (m : Lent) (roots hints : List ℕ) → collect m roots hints .refusal ≢ 0 → SameCollected m roots (collect m roots hints)
 unfolding collect refusedCollect
 collect-refused m roots hints n =
     rw (ne-eqb (refusalOfCollect m roots hints) 0 (λ e. n (collect-refusal m roots hints ∙ e)))
-    (record { hinted = refl; taken = refl; objects = refl; words = refl; lent = refl; roots = refl })
+    (record { lent = refl; roots = refl; hinted = refl; taken = refl; objects = refl; words = refl })

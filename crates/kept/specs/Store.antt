@@ -1,4 +1,4 @@
--- Load changes nothing, and store keeps a sound heap sound: what it writes is a payload word, so every walk goes as before.
+-- Look-up and load change nothing, and store keeps a sound heap sound: what it writes is a payload word, so every walk goes as before.
 use mathlib.Core.Path.{_≡_, sym, ap, _∙_, subst}
 use mathlib.Core.Logic.{_≢_, _⊎_, inl, inr}
 use mathlib.Core.List.{List·Memᴰ}
@@ -11,23 +11,25 @@ use Rattle.rules.specs.Ranges.{at}
 use Rattle.rules.specs.Lent.{Lent}
 use Rattle.rules.specs.Walk.{starts, stop}
 use Rattle.rules.specs.Sound.{InUse, IsObject, refs, payload, Opened, Sound}
-use Rattle.rules.specs.Calls.{Outcome, accepted, load, stored, store}
+use Rattle.rules.specs.Calls.{Outcome, accepted, lookUp, load, stored, store}
 use Rattle.laws.specs.Pages.{on-page}
 use Rattle.laws.specs.Valid.{valid-layout}
 use Rattle.laws.specs.LookUp.{placed}
 use Rattle.laws.specs.Walk.{size, page-steps, met-below, steps-upto}
 use Rattle.laws.specs.Walks.{steps-page, page-kept}
 use Rattle.laws.specs.Objects.{label-used, met-object, object-page, objects-apart, page-pos}
-use Rattle.kept.specs.Refusals.{load-refused, store-refused}
-use Rattle.kept.specs.Accepted.{load-says, StoreOk, store-says}
+use Rattle.kept.specs.Refusals.{by-refusal, look-up-refused, load-refused, store-refused}
+use Rattle.kept.specs.Accepted.{look-up-says, load-says, StoreOk, store-says}
+
+pub look-up-same : (m : Lent) (a : ℕ) → lookUp m a .lent ≡ m
+unfolding accepted
+look-up-same m a =
+    by-refusal (lookUp m a) (λ z. ap (λ (o : Outcome). o .lent) (look-up-says m a z .is)) (λ n. look-up-refused m a n .lent)
 
 pub load-same : (m : Lent) (a i : ℕ) → load m a i .lent ≡ m
 unfolding accepted
-load-same m a i = go (ℕ-discrete (load m a i .refusal) 0)
-  where
-    go : Dec (load m a i .refusal ≡ 0) → load m a i .lent ≡ m
-    go (yes z) = ap (λ (o : Outcome). o .lent) (load-says m a i z .is)
-    go (no n) = load-refused m a i n .lent
+load-same m a i =
+    by-refusal (load m a i) (λ z. ap (λ (o : Outcome). o .lent) (load-says m a i z .is)) (λ n. load-refused m a i n .lent)
 
 -- ---- a payload word was written
 
@@ -136,8 +138,7 @@ module _ (m : Lent) (S : Sound m) (a i v : ℕ) (o : Outcome) (ok : StoreOk m a 
 
 pub store-sound : (m : Lent) (a i v : ℕ) → Sound m → Sound (store m a i v .lent)
 unfolding accepted
-store-sound m a i v S = go (ℕ-discrete (store m a i v .refusal) 0)
-  where
-    go : Dec (store m a i v .refusal ≡ 0) → Sound (store m a i v .lent)
-    go (yes z) = let ok = store-says m a i v z in subst (λ (o : Outcome). Sound (o .lent)) (sym (ok .is)) (stored-sound m S a i v _ ok)
-    go (no n) = subst Sound (sym (store-refused m a i v n .lent)) S
+store-sound m a i v S =
+    by-refusal (store m a i v)
+    (λ z. let ok = store-says m a i v z in subst (λ (o : Outcome). Sound (o .lent)) (sym (ok .is)) (stored-sound m S a i v _ ok))
+    (λ n. subst Sound (sym (store-refused m a i v n .lent)) S)

@@ -8,6 +8,7 @@ pub mod FreePages
 pub mod Walks
 pub mod Objects
 pub mod LookUp
+pub mod Landed
 pub mod Sound
 pub mod Safe
 pub mod Collect

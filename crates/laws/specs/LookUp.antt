@@ -1,4 +1,4 @@
--- Laws of object starts and of look-up: the tests and the propositions agree, and what a walk that remembers the last object
+-- Laws of object starts and of what is found: the tests and the propositions agree, and what a walk that remembers the last object
 -- not above an address finds there.
 use mathlib.Core.Path.{_≡_, refl, sym, ap, _∙_}
 use mathlib.Core.Logic.{_≢_, _⊎_, inl, inr}
@@ -17,7 +17,7 @@ use Rattle.rules.specs.Tests.{and-left, and-right, and-is}
 use Rattle.rules.specs.Ranges.{at, has}
 use Rattle.rules.specs.Header.{sizeOf, refsOf, isHeader}
 use Rattle.rules.specs.Lent.{Lent}
-use Rattle.rules.specs.Walk.{behind, starts, stop, isInUse, isStart, isReference, landing, lookUp}
+use Rattle.rules.specs.Walk.{behind, starts, stop, isInUse, isStart, isReference, landing, found}
 use Rattle.rules.specs.Sound.{InUse, IsObject}
 use Rattle.laws.specs.Lists.{has-mem, mem-has}
 use Rattle.laws.specs.Headers.{header-says, header-full, header-zero}
@@ -81,9 +81,9 @@ placed m a y o =
       inside = omega (arith, M .header .fits, M .upto, w .0);
     }
 
--- ---- look-up and object starts
+-- ---- what is found, and object starts
 
--- look-up found an object start
+-- an object start was found
 abbrev pub wasStart : Found → Bool
 wasStart (Start w) = true
 wasStart (Inside s) = false
@@ -120,30 +120,30 @@ module _ (h : List ℕ) (a : ℕ) where
 
 module _ (m : Lent) (a : ℕ) where
   -- an object start is found, with its header
-  pub found-start : isStart m a ≡ true → lookUp m a ≡ Start (at (m .heap) a)
-  unfolding isStart lookUp
+  pub found-start : isStart m a ≡ true → found m a ≡ Start (at (m .heap) a)
+  unfolding isStart found
   found-start e =
       let g = a / m .rec .page in
       rw (and-left (isInUse m g) _ e) (landing-start (m .heap) a (starts m g) (and-right (isInUse m g) _ e) (page-steps m g))
 
-  pub found-none : isStart m a ≡ false → wasStart (lookUp m a) ≡ false
-  unfolding isStart lookUp
+  pub found-none : isStart m a ≡ false → wasStart (found m a) ≡ false
+  unfolding isStart found
   found-none e = go (isInUse m (a / m .rec .page)) e
     where
       go : (b : Bool) → (b && has a (starts m (a / m .rec .page))) ≡ false → wasStart (cond b (landing (m .heap) a (starts m (a / m .rec .page))) Nothing) ≡ false
       go true t = landing-none (m .heap) a (starts m (a / m .rec .page)) t
       go false t = refl
 
-  -- look-up tells object starts apart
-  pub found-is : wasStart (lookUp m a) ≡ isStart m a
+  -- exactly at object starts
+  pub found-is : wasStart (found m a) ≡ isStart m a
   found-is = go (isStart m a) refl
     where
-      go : (b : Bool) → isStart m a ≡ b → wasStart (lookUp m a) ≡ b
+      go : (b : Bool) → isStart m a ≡ b → wasStart (found m a) ≡ b
       go true e = ap wasStart (found-start e)
       go false e = found-none e
 
-  -- so an answer of look-up that is a start tells all of an object
-  pub found-object : (w : ℕ) → lookUp m a ≡ Start w → IsObject m a × (w ≡ at (m .heap) a)
+  -- so a start that was found tells all of an object
+  pub found-object : (w : ℕ) → found m a ≡ Start w → IsObject m a × (w ≡ at (m .heap) a)
   found-object w e =
       let b : isStart m a ≡ true = sym found-is ∙ ap wasStart e in
       (start-says m a b, start-word (found-start b) e)
@@ -233,25 +233,25 @@ module _ (h : List ℕ) (base e a : ℕ) where
         under true t l = leb-true b a t
         under false t l = l
 
--- ---- look-up by cases, in the order of its tests
+-- ---- what is found, by cases, in the order of the code's tests
 
 module _ (m : Lent) (a : ℕ) where
-  nothing : isInUse m (a / m .rec .page) ≡ false → lookUp m a ≡ Nothing
-  unfolding lookUp
+  nothing : isInUse m (a / m .rec .page) ≡ false → found m a ≡ Nothing
+  unfolding found
   nothing e = rw e
 
-  pub look-low : a / m .rec .page < 1 → lookUp m a ≡ Nothing
+  pub look-low : a / m .rec .page < 1 → found m a ≡ Nothing
   unfolding isInUse
   look-low h = nothing (rw (lt-leb 1 (a / m .rec .page) h))
 
-  pub look-no-page : m .rec .page ≡ 0 → lookUp m a ≡ Nothing
+  pub look-no-page : m .rec .page ≡ 0 → found m a ≡ Nothing
   look-no-page e = look-low (rw (e, div-zero a) (omega arith))
 
-  pub look-high : m .rec .pages ≤ a / m .rec .page → lookUp m a ≡ Nothing
+  pub look-high : m .rec .pages ≤ a / m .rec .page → found m a ≡ Nothing
   unfolding isInUse
   look-high h = nothing (rw (le-ltb (a / m .rec .page) (m .rec .pages) h) (and-false (leb 1 (a / m .rec .page))))
 
-  pub look-label : at (m .labels) (a / m .rec .page) ≢ m .rec .label → lookUp m a ≡ Nothing
+  pub look-label : at (m .labels) (a / m .rec .page) ≢ m .rec .label → found m a ≡ Nothing
   unfolding isInUse
   look-label h = nothing (simp (ne-eqb _ _ h, and-false))
 
@@ -259,20 +259,20 @@ module _ (m : Lent) (a : ℕ) where
   module _ (u : InUse m (a / m .rec .page)) (base : ℕ) (is-base : base ≡ a / m .rec .page * m .rec .page)
       (z s : ℕ) (is-stop : z ≡ behind (m .heap) base (objects (m .heap) base (base + m .rec .page)))
       (is-last : s ≡ lastUpTo a base (objects (m .heap) base (base + m .rec .page))) (pos : 0 < m .rec .page) where
-    look-walked : lookUp m a ≡ cond (ltb a z) (landed (m .heap) a s) Nothing
-    unfolding lookUp
+    look-walked : found m a ≡ cond (ltb a z) (landed (m .heap) a s) Nothing
+    unfolding found
     look-walked =
         let st = objects-steps (m .heap) base (base + m .rec .page) in
         rw (in-use-is m _ u, starts-are m (a / m .rec .page), sym is-base, is-stop, is-last)
         (landing-last (m .heap) a base st (omega (arith, page-on pos a _ refl .0)))
 
-    pub look-past : z ≤ a → lookUp m a ≡ Nothing
+    pub look-past : z ≤ a → found m a ≡ Nothing
     look-past h = look-walked ∙ rw (le-ltb a z h)
 
-    pub look-start : a < z → s ≡ a → lookUp m a ≡ Start (at (m .heap) s)
+    pub look-start : a < z → s ≡ a → found m a ≡ Start (at (m .heap) s)
     unfolding landed
     look-start h e = look-walked ∙ rw (lt-ltb a z h, eq-eqb a s (sym e))
 
-    pub look-inside : a < z → s ≢ a → lookUp m a ≡ Inside s
+    pub look-inside : a < z → s ≢ a → found m a ≡ Inside s
     unfolding landed
     look-inside h e = look-walked ∙ rw (lt-ltb a z h, ne-eqb a s (λ q. e (sym q)))

@@ -1,4 +1,4 @@
-// The leaves: header words, page sizes, the record, the labels as a table, the walk and look-up. Every function here answers
+// The leaves: header words, page sizes, the record, the labels as a table, the walk and what it finds. Every function here answers
 // every input, and equals its definition in `rules` there.
 pub mod header;
 pub mod pages;

@@ -1,4 +1,4 @@
-// The walk of a page, and look-up.
+// The walk of a page, and what is found at an address.
 use crate::header;
 use crate::record;
 use rules::Found;
@@ -10,7 +10,7 @@ ghost use Prim.Native.Nat.{ℕ, _+_, _≤_, _<_};
 ghost use lib.ListN.{length};
 ghost use lib.Dec.{leb};
 ghost use Rattle.rules.specs.Lent.{lent};
-ghost use Rattle.rules.specs.Walk.{behind, lookUp, isStart, isReference};
+ghost use Rattle.rules.specs.Walk.{behind, found, isStart, isReference};
 ghost use Rattle.laws.specs.Walk.{objects};
 ghost use Rattle.laws.specs.LookUp.{lastUpTo};
 
@@ -51,9 +51,9 @@ pub fn walk(heap: &[u32], base: usize, end: usize, address: usize) -> Walked
     Walked { stop, last }
 }
 
-// What stands at an address: an object's start, the inside of an object, or nothing. The links play no part.
-pub fn look_up(heap: &[u32], labels: &[u16], r: Record, address: u32) -> Found
-    ensures { λ x. ⌜ ((links : List ℕ) → x ≡ lookUp (lent (now (heap .entry)) (now (labels .entry)) links r) address) ⌝ }
+// What is found at an address: an object's start, the inside of an object, or nothing. The links play no part.
+pub fn find(heap: &[u32], labels: &[u16], r: Record, address: u32) -> Found
+    ensures { λ x. ⌜ ((links : List ℕ) → x ≡ found (lent (now (heap .entry)) (now (labels .entry)) links r) address) ⌝ }
 {
     let page = r.page;
     if page == 0 {
@@ -87,7 +87,7 @@ pub fn look_up(heap: &[u32], labels: &[u16], r: Record, address: u32) -> Found
 pub fn is_start(heap: &[u32], labels: &[u16], r: Record, address: u32) -> bool
     ensures { λ x. ⌜ ((links : List ℕ) → x ≡ isStart (lent (now (heap .entry)) (now (labels .entry)) links r) address) ⌝ }
 {
-    let found = look_up(heap, labels, r, address);
+    let found = find(heap, labels, r, address);
     match found {
         Found::Start(_) => true,
         Found::Inside(_) => false,

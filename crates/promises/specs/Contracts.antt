@@ -6,10 +6,10 @@ use Prim.Native.Nat.{ℕ}
 use Rattle.rules.specs.declared.Answer.{Answer}
 use Rattle.rules.specs.declared.Collected.{Collected}
 use Rattle.rules.specs.Lent.{Lent, lent}
-use Rattle.rules.specs.Calls.{Outcome, outcome, start, allocate, load, store}
+use Rattle.rules.specs.Calls.{Outcome, outcome, start, allocate, lookUp, load, store}
 use Rattle.rules.specs.Collect.{CollectOutcome, collectOutcome, collect}
 
--- what a call of the first four leaves: its answer, heap, labels and links
+-- what a call other than collect leaves: its answer, heap, labels and links
 pub record Left : Type 0 where
   pub answer : Answer
   pub heap : List ℕ
@@ -26,6 +26,9 @@ Starts m P T x = outcome (x .answer) (x .heap) (x .labels) (x .links) ≡ start 
 
 abbrev pub Allocates : Lent → ℕ → ℕ → Left → Type 0
 Allocates m d p x = outcome (x .answer) (x .heap) (x .labels) (x .links) ≡ allocate m d p
+
+abbrev pub LooksUp : Lent → ℕ → Left → Type 0
+LooksUp m a x = outcome (x .answer) (x .heap) (x .labels) (x .links) ≡ lookUp m a
 
 abbrev pub Loads : Lent → ℕ → ℕ → Left → Type 0
 Loads m a i x = outcome (x .answer) (x .heap) (x .labels) (x .links) ≡ load m a i
@@ -66,6 +69,9 @@ starts-once m P T = same-left (start m P T)
 
 pub allocates-once : (m : Lent) (d p : ℕ) (x y : Left) → Allocates m d p x → Allocates m d p y → x ≡ y
 allocates-once m d p = same-left (allocate m d p)
+
+pub looks-up-once : (m : Lent) (a : ℕ) (x y : Left) → LooksUp m a x → LooksUp m a y → x ≡ y
+looks-up-once m a = same-left (lookUp m a)
 
 pub loads-once : (m : Lent) (a i : ℕ) (x y : Left) → Loads m a i x → Loads m a i y → x ≡ y
 loads-once m a i = same-left (load m a i)

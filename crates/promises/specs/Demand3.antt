@@ -3,17 +3,16 @@
 use mathlib.Core.Path.{_≡_, sym, _∙_, subst}
 use mathlib.Core.List.{List, [], _∷_}
 use Prim.Native.Nat.{ℕ}
-use native.Mathlib.Decide.{ℕ-discrete}
 use Rattle.rules.specs.Lent.{Lent}
 use Rattle.rules.specs.Sound.{Sound}
 use Rattle.rules.specs.Calls.{start}
 use Rattle.rules.specs.Collect.{refusalOfCollect, collect}
-use Rattle.rules.specs.Demands.{Call, toStart, toAllocate, toLoad, toStore, toCollect, after, afterAll, Demand3}
-use Rattle.kept.specs.Refusals.{start-refused}
+use Rattle.rules.specs.Demands.{Call, toStart, toAllocate, toLookUp, toLoad, toStore, toCollect, after, afterAll, Demand3}
+use Rattle.kept.specs.Refusals.{by-refusal, start-refused}
 use Rattle.laws.specs.Collect.{collect-refusal}
 use Rattle.kept.specs.Start.{start-sound}
 use Rattle.kept.specs.Allocate.{allocate-sound}
-use Rattle.kept.specs.Store.{load-same, store-sound}
+use Rattle.kept.specs.Store.{look-up-same, load-same, store-sound}
 use Rattle.theory.specs.Collections.{collect-keeps-sound, collect-finds, collect-faithful}
 
 -- an accepted collection passed its tests
@@ -23,12 +22,9 @@ tested m roots hints e = sym (collect-refusal m roots hints) ∙ e
 -- every call keeps a sound heap sound, accepted or refused
 pub call-sound : (m : Lent) → Sound m → (c : Call) → Sound (after m c)
 unfolding after
-call-sound m S (toStart P T) = go (ℕ-discrete (start m P T .refusal) 0)
-  where
-    go : Dec (start m P T .refusal ≡ 0) → Sound (start m P T .lent)
-    go (yes e) = start-sound m P T e
-    go (no n) = subst Sound (sym (start-refused m P T n .lent)) S
+call-sound m S (toStart P T) = by-refusal (start m P T) (start-sound m P T) (λ n. subst Sound (sym (start-refused m P T n .lent)) S)
 call-sound m S (toAllocate d p) = allocate-sound m d p S
+call-sound m S (toLookUp a) = subst Sound (sym (look-up-same m a)) S
 call-sound m S (toLoad a i) = subst Sound (sym (load-same m a i)) S
 call-sound m S (toStore a i v) = store-sound m a i v S
 call-sound m S (toCollect roots hints) = collect-keeps-sound m roots hints S

@@ -1,4 +1,6 @@
+pub mod Demand1
 pub mod Demand3
 pub mod Hinted
+pub mod Landed
 pub mod Contracts
 pub mod Programs

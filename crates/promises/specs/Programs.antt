@@ -9,11 +9,11 @@ use Rattle.rules.specs.Sound.{Sound}
 use Rattle.rules.specs.Calls.{Outcome, start}
 use Rattle.rules.specs.Collection.{plainly, collection}
 use Rattle.rules.specs.Collect.{CollectOutcome, collectOutcome, acceptedCollect}
-use Rattle.rules.specs.Demands.{toStart, toAllocate, toLoad, toStore, toCollect, after, Faithful, FindsPages}
+use Rattle.rules.specs.Demands.{toStart, toAllocate, toLookUp, toLoad, toStore, toCollect, after, Faithful, FindsPages}
 use Rattle.kept.specs.Start.{start-sound}
 use Rattle.laws.specs.Collect.{collect-refusal, collect-accepts}
 use Rattle.theory.specs.Collections.{collect-finds, collect-faithful}
-use Rattle.promises.specs.Contracts.{Left, held, Starts, Allocates, Loads, Stores, LeftCollected, heldCollected, Collects}
+use Rattle.promises.specs.Contracts.{Left, held, Starts, Allocates, LooksUp, Loads, Stores, LeftCollected, heldCollected, Collects}
 use Rattle.promises.specs.Demand3.{call-sound}
 
 -- m is what a program holds after an accepted start and any calls since, accepted or refused
@@ -21,6 +21,7 @@ pub data Held : Lent → Type 0 where
   begun : (m : Lent) (P T : ℕ) (x : Left) → Starts m P T x → x .answer .refusal ≡ 0 → Held (held x)
   restarted : (m : Lent) (P T : ℕ) (x : Left) → Held m → Starts m P T x → Held (held x)
   allocated : (m : Lent) (d p : ℕ) (x : Left) → Held m → Allocates m d p x → Held (held x)
+  lookedUp : (m : Lent) (a : ℕ) (x : Left) → Held m → LooksUp m a x → Held (held x)
   loaded : (m : Lent) (a i : ℕ) (x : Left) → Held m → Loads m a i x → Held (held x)
   stored : (m : Lent) (a i v : ℕ) (x : Left) → Held m → Stores m a i v x → Held (held x)
   collected : (m : Lent) (roots hints : List ℕ) (x : LeftCollected) → Held m → Collects m roots hints x → Held (heldCollected x)
@@ -36,6 +37,7 @@ held-sound (begun m P T x c e) =
     subst Sound (lent-of _ _ c) (start-sound m P T z)
 held-sound (restarted m P T x h c) = subst Sound (lent-of _ _ c) (call-sound m (held-sound h) (toStart P T))
 held-sound (allocated m d p x h c) = subst Sound (lent-of _ _ c) (call-sound m (held-sound h) (toAllocate d p))
+held-sound (lookedUp m a x h c) = subst Sound (lent-of _ _ c) (call-sound m (held-sound h) (toLookUp a))
 held-sound (loaded m a i x h c) = subst Sound (lent-of _ _ c) (call-sound m (held-sound h) (toLoad a i))
 held-sound (stored m a i v x h c) = subst Sound (lent-of _ _ c) (call-sound m (held-sound h) (toStore a i v))
 held-sound (collected m roots hints x h c) =

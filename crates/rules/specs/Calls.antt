@@ -1,10 +1,12 @@
--- Start, allocate, load and store: what each answers and leaves, refusals included. `m` is what is lent before the call.
--- The table of refusals, in the order of its numbers:
---   1 layout: a wrong length, P, T or record            4 no object: the address is no object start
---   2 shape: d > P - 1 or p > d                         5 index: index ≥ d
---   3 collect first: n words don't fit in the open      6 bad reference: a value for a reference, neither 0 nor an
---     page, and N < 3k + 2                                object start
--- and for collect (Collect.antt) 7 unsound and 8 no room. Each definition below makes its checks in this order.
+-- Start, allocate, look-up, load and store: what each answers and leaves, refusals included. `m` is what is lent before the
+-- call. The table of refusals, in the order in which they are tested:
+--   1 layout: a wrong length, P, T or record            4 nothing there, or 10 inside an object (Q-2): the address is no
+--   2 shape: d > P - 1 or p > d                           object start
+--   3 collect first: n words don't fit in the open      5 index: index ≥ d
+--     page, and N < 3k + 2                              6 bad reference: a value for a reference, neither 0 nor an
+--                                                         object start
+-- and for collect (Collect.antt) 7 unsound and 8 no room. Each definition below makes its checks in this order. The value of a
+-- refusal is 0, but for 10: there it is the start of the object that the address is inside.
 use mathlib.Core.Bool.{Bool, cond, _&&_, _||_}
 use mathlib.Core.List.{List, _∷_}
 use Prim.Native.Nat.{ℕ, _+_, _*_, _-_}
@@ -18,7 +20,7 @@ use Rattle.rules.specs.Ranges.{at}
 use Rattle.rules.specs.Header.{headerOf, sizeOf, refsOf}
 use Rattle.rules.specs.Pages.{pageAtStart, lowestFree, pagesUsed}
 use Rattle.rules.specs.Lent.{Lent, lent, opening, isLaid, isValid}
-use Rattle.rules.specs.Walk.{isReference, lookUp, refusalOf}
+use Rattle.rules.specs.Walk.{isReference, found}
 
 -- the refusal's number, 0 if accepted; the value; and what was lent, with the record, as the call leaves it
 pub record Outcome : Type 0 where
@@ -34,6 +36,10 @@ outcome x heap labels links = record { refusal = x .refusal; value = x .value; l
 -- the same."
 unfoldable pub refused : ℕ → Lent → Outcome
 refused e m = record { refusal = e; value = 0; lent = m }
+
+-- Q-2: "10, inside an object, value s". "Here alone a refusal's value is not 0."
+unfoldable pub inside : ℕ → Lent → Outcome
+inside s m = record { refusal = 10; value = s; lent = m }
 
 unfoldable pub accepted : ℕ → Lent → Outcome
 accepted v m = record { refusal = 0; value = v; lent = m }
@@ -89,17 +95,27 @@ allocate m d p =
     (unless (mayTake m) 3 m
     (accepted (newPage m * r .page) (withObject m (newPage m) 0 d p (set (m .labels) (newPage m) (r .label)))))))
 
--- what follows once the address is found to be an object start, with its header; else look-up's refusal
-abbrev pub onStart : Found → Lent → (ℕ → Outcome) → Outcome
-onStart (Start w) m go = go w
-onStart (Inside s) m go = refused (refusalOf (Inside s)) m
-onStart Nothing m go = refused (refusalOf Nothing) m
+-- What was found at address a, in the papers' numbers (Q-2): "0 and the start, 10 and s, or 4 and 0"
+abbrev pub told : Found → ℕ → Lent → Outcome
+told (Start w) a m = accepted a m
+told (Inside s) a m = inside s m
+told Nothing a m = refused 4 m
+
+-- "Looking up an address shall answer: an object start, inside the object that starts at s, or nothing."
+unfoldable pub lookUp : Lent → ℕ → Outcome
+lookUp m a = unless (isValid m) 1 m (told (found m a) a m)
+
+-- "Load and store pass this on": they go on from an object start, with its header, and answer as look-up does elsewhere
+abbrev pub onStart : Found → ℕ → Lent → (ℕ → Outcome) → Outcome
+onStart (Start w) a m go = go w
+onStart (Inside s) a m go = told (Inside s) a m
+onStart Nothing a m go = told Nothing a m
 
 -- "Load returns payload word i."
 unfoldable pub load : Lent → ℕ → ℕ → Outcome
 load m a i =
     unless (isValid m) 1 m
-    (onStart (lookUp m a) m (λ w.
+    (onStart (found m a) a m (λ w.
     unless (ltb i (sizeOf w - 1)) 5 m
     (accepted (at (m .heap) (a + 1 + i)) m)))
 
@@ -114,7 +130,7 @@ stored m a i v = record { heap = set (m .heap) (a + 1 + i) v; labels = m .labels
 unfoldable pub store : Lent → ℕ → ℕ → ℕ → Outcome
 store m a i v =
     unless (isValid m) 1 m
-    (onStart (lookUp m a) m (λ w.
+    (onStart (found m a) a m (λ w.
     unless (ltb i (sizeOf w - 1)) 5 m
     (unless (mayStore m w i v) 6 m
     (accepted 0 (stored m a i v)))))

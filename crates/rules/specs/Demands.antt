@@ -1,7 +1,8 @@
--- The third demand, over the definitions that the code's contracts cite. The first two are the contracts themselves: each
--- call has no `requires`, and equals its definition.
+-- The first and the third demand, over the definitions that the code's contracts cite. The second is the contracts themselves:
+-- each call equals its definition. That every call ends and stays inside the memory lent to it, for any words there, the language
+-- proves of each that has no `requires`.
 use mathlib.Core.Path.{_≡_}
-use mathlib.Core.Logic.{_⊎_}
+use mathlib.Core.Logic.{_≢_, _⊎_}
 use mathlib.Core.List.{List, [], _∷_, List·Memᴰ}
 use Prim.Native.Nat.{ℕ, _+_, _/_, _≤_, _<_}
 use lib.ListN.{length}
@@ -10,15 +11,51 @@ use Rattle.rules.specs.Header.{sizeOf}
 use Rattle.rules.specs.Pages.{pagesNamed, pagesNeeded}
 use Rattle.rules.specs.Lent.{Lent}
 use Rattle.rules.specs.Sound.{InUse, IsObject, Sound, refs, payload}
-use Rattle.rules.specs.Calls.{start, allocate, load, store}
+use Rattle.rules.specs.Calls.{Outcome, start, allocate, lookUp, load, store}
 use Rattle.rules.specs.Collection.{plainly, collection}
 use Rattle.rules.specs.Collect.{CollectOutcome, collect, unhinted}
 
--- ---- any calls
+-- ---- demand 1: "Bad calls get a refusal number from the table; the value is then 0, and record and memory are as before."
+
+pub record Same (m : Lent) (o : Outcome) : Type 0 where
+  pub lent : o .lent ≡ m
+  pub value : o .value ≡ 0
+
+-- address a lies inside the object that starts at s
+pub record LiesInside (m : Lent) (a s : ℕ) : Type 0 where
+  pub object : IsObject m s
+  pub behind : s < a
+  pub before : a < s + sizeOf (at (m .heap) s)
+
+-- a call with address a. Q-2: "Here alone a refusal's value is not 0": 10's is the start of the object that a lies inside
+pub record SameAt (m : Lent) (a : ℕ) (o : Outcome) : Type 0 where
+  pub lent : o .lent ≡ m
+  pub value : o .refusal ≢ 10 → o .value ≡ 0
+  pub inside : o .refusal ≡ 10 → LiesInside m a (o .value)
+
+-- "for collect, four zeros"; "every .. root .. stays the same"
+pub record SameCollected (m : Lent) (cells : List ℕ) (o : CollectOutcome) : Type 0 where
+  pub lent : o .lent ≡ m
+  pub roots : o .roots ≡ cells
+  pub hinted : o .hinted ≡ 0
+  pub taken : o .taken ≡ 0
+  pub objects : o .objects ≡ 0
+  pub words : o .words ≡ 0
+
+pub record Demand1 : Type 0 where
+  pub starts : (m : Lent) (P T : ℕ) → start m P T .refusal ≢ 0 → Same m (start m P T)
+  pub allocates : (m : Lent) (d p : ℕ) → allocate m d p .refusal ≢ 0 → Same m (allocate m d p)
+  pub looksUp : (m : Lent) (a : ℕ) → lookUp m a .refusal ≢ 0 → SameAt m a (lookUp m a)
+  pub loads : (m : Lent) (a i : ℕ) → load m a i .refusal ≢ 0 → SameAt m a (load m a i)
+  pub stores : (m : Lent) (a i v : ℕ) → store m a i v .refusal ≢ 0 → SameAt m a (store m a i v)
+  pub collects : (m : Lent) (roots hints : List ℕ) → collect m roots hints .refusal ≢ 0 → SameCollected m roots (collect m roots hints)
+
+-- ---- demand 3: any calls
 
 pub data Call : Type 0 where
   toStart : (P T : ℕ) → Call
   toAllocate : (d p : ℕ) → Call
+  toLookUp : (a : ℕ) → Call
   toLoad : (a i : ℕ) → Call
   toStore : (a i v : ℕ) → Call
   toCollect : (roots hints : List ℕ) → Call
@@ -27,6 +64,7 @@ pub data Call : Type 0 where
 unfoldable pub after : Lent → Call → Lent
 after m (toStart P T) = start m P T .lent
 after m (toAllocate d p) = allocate m d p .lent
+after m (toLookUp a) = lookUp m a .lent
 after m (toLoad a i) = load m a i .lent
 after m (toStore a i v) = store m a i v .lent
 after m (toCollect roots hints) = collect m roots hints .lent
@@ -45,7 +83,7 @@ pub record FromStart (m : Lent) : Type 0 where
   pub calls : List Call
   pub here : m ≡ afterAll (start lent P T .lent) calls
 
--- ---- one collection
+-- ---- demand 3: one collection
 
 -- page g is hinted: a hint word names it, as its own page or as that of the word before (Q-1), and it is in use
 pub record Hinted (m : Lent) (hints : List ℕ) (g : ℕ) : Type 0 where

@@ -1,4 +1,4 @@
--- The starred edges of document 01, and those of Q-1: one table, and one theorem that antt computes. The program `edges` runs
+-- The starred edges of document 01, and those of Q-1 and Q-2: one table, and one theorem that antt computes. The program `edges` runs
 -- the same on the code.
 use mathlib.Core.Path.{_≡_, refl, ap, _∙_, sym}
 use mathlib.Core.Logic.{_⊎_, inl, inr}
@@ -9,10 +9,11 @@ use lib.Dec.{eqb}
 use borrow.Author.Tests.{eqb-true}
 use Rattle.rules.specs.Tests.{and-left, and-right}
 use Rattle.rules.specs.Ranges.{at, from, block, has, count, first}
-use Rattle.rules.specs.Header.{headerOf}
+use Rattle.rules.specs.Header.{headerOf, sizeOf, refsOf, isHeader}
 use Rattle.rules.specs.Pages.{isPageSize, pageAtStart, isShape, pageNamed, pageNamedBefore, pagesOfHint, isFree, lowestFree, pagesUsed, pagesNeeded, pageNamedToC, pageNamedBeforeToC, pagesNeededToC}
 use Rattle.rules.specs.Lent.{Lent, isLaidOut, isLabel, isOpen, isValid}
-use Rattle.rules.specs.Calls.{refused, accepted, start, withObject, allocate}
+use Rattle.rules.specs.Walk.{walk, starts, isInUse, landing, found}
+use Rattle.rules.specs.Calls.{refused, inside, accepted, start, withObject, allocate, lookUp, load, store}
 use Rattle.rules.specs.Examples.{fresh}
 
 -- P 8, T 6, so that N is 5, with k pages in use, each full
@@ -49,6 +50,15 @@ edges =
     ∷ edge (pagesNeededToC 0) 0 ∷ edge (pagesNeededToC 1) 1 ∷ edge (pagesNeededToC 2) 3
     -- "N 5, k 1: a new page is given. N 5, k 2: refused 3."
     ∷ edge (allocate used1 7 0 .refusal) 0 ∷ edge (allocate used1 7 0 .value) 16 ∷ edge (allocate used2 7 0 .refusal) 3
+    -- Q-2: "0 and the start, 10 and s, or 4 and 0". Of the object at 8, which ends its page: its start, its first and last words
+    -- inside, and just past it; page 0's last word; and that load and store pass it on
+    ∷ edge (lookUp used1 8 .refusal) 0 ∷ edge (lookUp used1 8 .value) 8
+    ∷ edge (lookUp used1 9 .refusal) 10 ∷ edge (lookUp used1 9 .value) 8
+    ∷ edge (lookUp used1 15 .refusal) 10 ∷ edge (lookUp used1 15 .value) 8
+    ∷ edge (lookUp used1 16 .refusal) 4 ∷ edge (lookUp used1 16 .value) 0
+    ∷ edge (lookUp used1 7 .refusal) 4 ∷ edge (lookUp used1 7 .value) 0
+    ∷ edge (load used1 15 0 .refusal) 10 ∷ edge (load used1 15 0 .value) 8
+    ∷ edge (store used1 15 0 0 .refusal) 10 ∷ edge (store used1 15 0 0 .value) 8
     ∷ []
 
 unfoldable hold : List Edge → Bool
@@ -56,7 +66,7 @@ hold [] = true
 hold (e ∷ es) = eqb (e .asked) (e .answer) && hold es
 
 computed : hold edges ≡ true
-unfolding hold edges used1 used2 fresh from block has count first headerOf isPageSize pageAtStart isShape pageNamed pageNamedBefore pagesOfHint isFree lowestFree pagesUsed pagesNeeded pageNamedToC pageNamedBeforeToC pagesNeededToC isLaidOut isLabel isOpen isValid refused accepted start withObject allocate
+unfolding hold edges used1 used2 fresh from block has count first headerOf isPageSize pageAtStart isShape pageNamed pageNamedBefore pagesOfHint isFree lowestFree pagesUsed pagesNeeded pageNamedToC pageNamedBeforeToC pagesNeededToC isLaidOut isLabel isOpen isValid sizeOf refsOf isHeader walk starts isInUse landing found refused inside accepted start withObject allocate lookUp load store
 computed = refl
 
 row : (es : List Edge) → hold es ≡ true → (e : Edge) → List·Memᴰ e es → e .asked ≡ e .answer

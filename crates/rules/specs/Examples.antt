@@ -10,9 +10,9 @@ use Rattle.rules.specs.Ranges.{at, from, block, each, has, count, first}
 use Rattle.rules.specs.Header.{headerOf, sizeOf, refsOf, isHeader}
 use Rattle.rules.specs.Pages.{isPageSize, pageAtStart, isShape, pageNamed, pageNamedBefore, pagesOfHint, pagesNamed, isFree, lowestFree, pagesUsed, pagesUnhinted, pagesNeeded, otherLabel}
 use Rattle.rules.specs.Lent.{Lent, isLaidOut, isLabel, isOpen, isValid}
-use Rattle.rules.specs.Walk.{walk, behind, starts, stop, isInUse, isStart, isReference, landing, lookUp}
+use Rattle.rules.specs.Walk.{walk, behind, starts, stop, isInUse, isStart, isReference, landing, found}
 use Rattle.rules.specs.Sound.{isBlank, refsGood, isUsedSound, isPageSound, isFillSound, isSound}
-use Rattle.rules.specs.Calls.{refused, accepted, start, withObject, allocate, load, mayStore, store}
+use Rattle.rules.specs.Calls.{refused, inside, accepted, start, withObject, allocate, lookUp, load, mayStore, store}
 use Rattle.rules.specs.Collection.{hintPage, hintPages, takePage, withRoom, top, put, copyObject, forward, forwardRoots, sweepReference, sweepReferences, sweepPage, sweepQueue, freedLabels, freedHeap, planOf, begun, afterHints, afterRoots, afterSweep, collection}
 use Rattle.rules.specs.Collect.{unhinted, hasRoom, refusalOfCollect, CollectOutcome, refusedCollect, acceptedCollect, collect}
 
@@ -63,13 +63,13 @@ record Examples : Type 0 where
   header-none : isHeader 1 8 ≡ false
   header-even : isHeader (2 * 65536) 8 ≡ false
   header-room : isHeader (headerOf 1 1) 1 ≡ false
-  -- the walk of page 1 of the session, and what look-up finds on it
+  -- the walk of page 1 of the session, and what is found on it
   walked : starts after6 1 ≡ 8 ∷ 12 ∷ []
   stopped : stop (allocate fresh 3 1 .lent) 1 ≡ 12
-  found-start : lookUp after6 12 ≡ Start (headerOf 3 0)
-  found-inside : lookUp after6 15 ≡ Inside 12
-  found-nothing : lookUp (allocate fresh 3 1 .lent) 12 ≡ Nothing
-  found-page0 : lookUp after6 0 ≡ Nothing
+  found-start : found after6 12 ≡ Start (headerOf 3 0)
+  found-inside : found after6 15 ≡ Inside 12
+  found-nothing : found (allocate fresh 3 1 .lent) 12 ≡ Nothing
+  found-page0 : found after6 0 ≡ Nothing
   -- a start, and P = 0
   default : start (record { heap = replicate 384 7; labels = replicate 3 7; links = replicate 3 7; rec = fresh .rec }) 0 3 .lent .rec .page ≡ 128
   -- 3k + 2 is one too many
@@ -112,9 +112,20 @@ record Examples : Type 0 where
   -- unsound heaps and bad roots are refused: a stray word on a free page, a root inside an object
   stray : collect (record { heap = replicate 48 1; labels = fresh .labels; links = fresh .links; rec = fresh .rec }) [] [] .refusal ≡ 7
   root : collect across (9 ∷ []) [] .refusal ≡ 6
+  -- Q-2: look-up at the second object of a page, inside it, and just past it, where the next one starts; and with too few labels
+  at-start : (lookUp after6 12 .refusal ≡ 0) × (lookUp after6 12 .value ≡ 12)
+  at-inside : (lookUp after6 15 .refusal ≡ 10) × (lookUp after6 15 .value ≡ 12)
+  at-next : (lookUp after6 16 .refusal ≡ 0) × (lookUp after6 16 .value ≡ 16)
+  at-first : lookUp (record { heap = after6 .heap; labels = []; links = after6 .links; rec = after6 .rec }) 15 .refusal ≡ 1
+  -- load and store pass it on before they look at index and value; a reference inside an object is refused as before
+  load-inside : (load after6 15 99 .refusal ≡ 10) × (load after6 15 99 .value ≡ 12)
+  load-nothing : load after6 24 99 .refusal ≡ 4
+  store-inside : (store after6 15 99 9 .refusal ≡ 10) × (store after6 15 99 9 .value ≡ 12)
+  store-nothing : store after6 24 99 9 .refusal ≡ 4
+  store-reference : (store after6 8 0 13 .refusal ≡ 6) × (store after6 8 0 13 .value ≡ 0)
 
 examples : Examples
-unfolding from block each has count first headerOf sizeOf refsOf isHeader isPageSize pageAtStart isShape pageNamed pageNamedBefore pagesOfHint pagesNamed isFree lowestFree pagesUsed pagesUnhinted pagesNeeded otherLabel isLaidOut isLabel isOpen isValid walk behind starts stop isInUse isStart isReference landing lookUp isBlank refsGood isUsedSound isPageSound isFillSound isSound refused accepted start withObject allocate load mayStore store hintPage hintPages takePage withRoom top put copyObject forward forwardRoots sweepReference sweepReferences sweepPage sweepQueue freedLabels freedHeap planOf begun afterHints afterRoots afterSweep collection unhinted hasRoom refusalOfCollect refusedCollect acceptedCollect collect fresh small after4 after6 record8 roots8 record14 itself across boundary
+unfolding from block each has count first headerOf sizeOf refsOf isHeader isPageSize pageAtStart isShape pageNamed pageNamedBefore pagesOfHint pagesNamed isFree lowestFree pagesUsed pagesUnhinted pagesNeeded otherLabel isLaidOut isLabel isOpen isValid walk behind starts stop isInUse isStart isReference landing found isBlank refsGood isUsedSound isPageSound isFillSound isSound refused inside accepted start withObject allocate lookUp load mayStore store hintPage hintPages takePage withRoom top put copyObject forward forwardRoots sweepReference sweepReferences sweepPage sweepQueue freedLabels freedHeap planOf begun afterHints afterRoots afterSweep collection unhinted hasRoom refusalOfCollect refusedCollect acceptedCollect collect fresh small after4 after6 record8 roots8 record14 itself across boundary
 examples = record {
   header = refl;
   header-refs = refl;
@@ -157,4 +168,13 @@ examples = record {
   then-before = refl;
   stray = refl;
   root = refl;
+  at-start = (refl, refl);
+  at-inside = (refl, refl);
+  at-next = (refl, refl);
+  at-first = refl;
+  load-inside = (refl, refl);
+  load-nothing = refl;
+  store-inside = (refl, refl);
+  store-nothing = refl;
+  store-reference = (refl, refl);
 }

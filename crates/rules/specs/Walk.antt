@@ -1,4 +1,4 @@
--- The walk of a page, object starts, and what look-up finds.
+-- The walk of a page, object starts, and what is found at an address.
 use mathlib.Core.Bool.{Bool, cond, _&&_, _||_}
 use mathlib.Core.List.{List, [], _∷_}
 use Prim.Native.Nat.{ℕ, zero, suc, _+_, _*_, _-_, _/_}
@@ -52,12 +52,6 @@ landing h a (x ∷ xs) =
     (cond (ltb x a && ltb a (x + sizeOf (at h x))) (Inside x)
     (landing h a xs))
 
--- look-up of an address: an object start, with its header; inside the object that starts at s; or nothing
-unfoldable pub lookUp : Lent → ℕ → Found
-lookUp m a = cond (isInUse m (a / m .rec .page)) (landing (m .heap) a (starts m (a / m .rec .page))) Nothing
-
--- look-up's cases in this paper's numbers: the refusal that load and store give for each
-abbrev pub refusalOf : Found → ℕ
-refusalOf (Start w) = 0
-refusalOf (Inside s) = 4
-refusalOf Nothing = 4
+-- what is found at an address (Q-2): "an object start", with its header, "inside the object that starts at s, or nothing"
+unfoldable pub found : Lent → ℕ → Found
+found m a = cond (isInUse m (a / m .rec .page)) (landing (m .heap) a (starts m (a / m .rec .page))) Nothing

@@ -1,5 +1,5 @@
 // The shapes that the definitions and the code share: the control record, what a call answers, and
-// what look-up finds. They cross to C as they stand, so every number is 32 bits wide.
+// what is found at an address. They cross to C as they stand, so every number is 32 bits wide.
 
 ghost use mathlib.Core.Path.{_≡_};
 ghost use Rattle.rules.specs.Lent.{opening, relabelled};
@@ -33,8 +33,8 @@ impl Record {
     }
 }
 
-// What start, allocate, load and store answer: the refusal's number, 0 if accepted; the value, 0 if
-// refused; and the record.
+// What start, allocate, look-up, load and store answer: the refusal's number, 0 if accepted; the value,
+// 0 if refused but for refusal 10; and the record.
 #[repr(C)]
 pub struct Answer {
     pub refusal: u32,

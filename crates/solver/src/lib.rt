@@ -6,7 +6,7 @@ use rules::Record;
 ghost use mathlib.Core.Path.{_≡_};
 ghost use Rattle.rules.specs.Pages.{pageNamedToC, pageNamedBeforeToC, pagesNeededToC};
 ghost use Rattle.rules.specs.Lent.{lent};
-ghost use Rattle.rules.specs.Calls.{outcome, start, allocate, load, store};
+ghost use Rattle.rules.specs.Calls.{outcome, start, allocate, lookUp, load, store};
 ghost use Rattle.rules.specs.Collect.{collectOutcome, collect};
 
 // The memory is zeroed for T pages of P words; P 0 means the default. Any record will do.
@@ -37,6 +37,20 @@ pub extern "C" fn fouterpin_allocate(
     ensures { λ x. ⌜ outcome x (now (heap .exit)) (now (labels .exit)) (now (links .exit)) ≡ allocate (lent (now (heap .entry)) (now (labels .entry)) (now (links .entry)) r) d p ⌝ }
 {
     heap::allocate(heap, labels, links, r, d, p)
+}
+
+// What is there at the address: the value is the start of the object that it is at or, with refusal 10, inside.
+#[no_mangle]
+pub extern "C" fn fouterpin_look_up(
+    heap: &[u32],
+    labels: &[u16],
+    links: &[u16],
+    r: Record,
+    address: u32,
+) -> Answer
+    ensures { λ x. ⌜ outcome x (now (heap .entry)) (now (labels .entry)) (now (links .entry)) ≡ lookUp (lent (now (heap .entry)) (now (labels .entry)) (now (links .entry)) r) address ⌝ }
+{
+    heap::look_up(heap, labels, links, r, address)
 }
 
 // The value is that payload word of the object at the address.

@@ -10,7 +10,7 @@ use native.Mathlib.Nat.{mul-le-mul-left}
 use lib.ListN.{length, take, drop, set, length-replicate}
 use lib.Seq.{take-at, length-take-le}
 use lib.Dec.{eqb}
-use borrow.Author.Tests.{eq-eqb, ne-eqb, eqb-true, eqb-false, le-leb, lt-leb}
+use borrow.Author.Tests.{eq-eqb, ne-eqb, eqb-false, le-leb, lt-leb}
 use types.Run.{OneOf, miss}
 use denote.Enum.Declared.{tagOf}
 use Rattle.rules.specs.declared.Record.{Record}
@@ -20,78 +20,65 @@ use Rattle.rules.specs.Ranges.{at}
 use Rattle.rules.specs.declared.Answer.{Answer}
 use Rattle.rules.specs.Lent.{Lent, lent, isLaidOut, isLaid}
 use Rattle.rules.specs.Calls as calls
-use Rattle.rules.specs.Calls.{Outcome, outcome, start, started, allocate, load, store}
+use Rattle.rules.specs.Calls.{Outcome, outcome, start, started, allocate, lookUp, load, store}
 use Rattle.rules.specs.Collect.{CollectOutcome, collect}
 use Rattle.laws.specs.Pages.{shape-says}
-use Rattle.kept.specs.Refusals.{RefusedSame, allocate-refused, load-refused, store-refused, CollectSame, collect-refused}
+use Rattle.kept.specs.Refusals.{by-test, allocate-refused, look-up-refused, load-refused, store-refused, collect-refused}
 use Rattle.entries.specs.declared.Operand.{Operand}
 use Rattle.entries.specs.declared.Step.{Step}
-use Rattle.entries.specs.declared.Step.the-variants.{Start, Allocate, Store, Load, Hint, Clear, Collect, Bad}
+use Rattle.entries.specs.declared.Step.the-variants.{Start, Allocate, Store, Load, Hint, Clear, Collect, LookUp, Bad}
 use Rattle.entries.specs.Entries.{isAllowed}
-use Rattle.steps.specs.Session.{Session, Stepped, cells, holding, refused, accepted, called, collected, blank, placed, operandOf, perform, step}
+use Rattle.steps.specs.Session.{Session, Stepped, cells, holding, refused, accepted, passed, called, blank, placed, operandOf, rootPlus, perform, step}
 use Rattle.steps.specs.declared.play.Progress.{Progress}
 use Rattle.steps.specs.Code.{playing, replied, session, stepped, isStart, Buffers, Within}
 use Rattle.entries.proofs.Step.{the-type}
 
 -- ---- a call
 
-abbrev pub answered : Session → Outcome → List ℕ → Stepped
-answered s o roots = record { refusal = o .refusal; value = o .value; session = holding s (o .lent) roots }
+abbrev replying : ℕ → ℕ → Session → Stepped
+replying e v t = record { refusal = e; value = v; session = t }
 
-pub called-accepted : (s : Session) (o : Outcome) (roots : List ℕ) → o .refusal ≡ 0 → called s o roots ≡ answered s o roots
-unfolding called accepted
-called-accepted s o roots e = simp e
+abbrev answered : Session → Outcome → List ℕ → Stepped
+answered s o roots = replying (o .refusal) (o .value) (holding s (o .lent) roots)
 
-pub called-refused : (s : Session) (o : Outcome) (roots : List ℕ) → o .refusal ≢ 0 → RefusedSame (s .lent) o
-    → called s o roots ≡ answered s o (s .roots)
-unfolding called refused
-called-refused s o roots n same = simp (ne-eqb (o .refusal) 0 n, same n .value, same n .lent)
+-- what a call leaves is passed on: always if it was accepted, and else where it left the session as it was
+passed-is : (s : Session) (e v : ℕ) (t : Session) → (e ≢ 0 → s ≡ t) → passed s e v t ≡ replying e v t
+unfolding passed
+passed-is s e v t same = by-test (λ (u : Session). replying e v u ≡ replying e v t) (eqb e 0) t s (λ z. refl) (λ n. ap (replying e v) (same (eqb-false e 0 n)))
 
--- where the root cells stay, one equation says both
-pub called-kept : (s : Session) (o : Outcome) → RefusedSame (s .lent) o → called s o (s .roots) ≡ answered s o (s .roots)
-called-kept s o same = by (eqb (o .refusal) 0) refl
-  where
-    by : (b : Bool) → eqb (o .refusal) 0 ≡ b → called s o (s .roots) ≡ answered s o (s .roots)
-    by true e = called-accepted s o (s .roots) (eqb-true _ 0 e)
-    by false e = called-refused s o (s .roots) (eqb-false _ 0 e) same
+-- a refused call left the memory as it was, and the root cells stay too
+called-kept : (s : Session) (o : Outcome) → (o .refusal ≢ 0 → o .lent ≡ s .lent) → answered s o (s .roots) ≡ called s o (s .roots)
+called-kept s o same = sym (passed-is s (o .refusal) (o .value) (holding s (o .lent) (s .roots)) (λ n. ap (λ (m : Lent). holding s m (s .roots)) (sym (same n))))
 
 -- ---- each operation that calls, from the outcome of its call
 
 pub allocated : (s : Session) (x d p : ℕ) (o : Outcome) → o ≡ allocate (s .lent) d p → o .refusal ≡ 0
     → answered s o (set (s .roots) x (o .value)) ≡ perform s (Allocate x d p)
 unfolding perform
-allocated s x d p o e z = sym (called-accepted s o _ z) ∙ ap (λ (w : Outcome). placed s x w) e
+allocated s x d p o e z = sym (passed-is s (o .refusal) _ _ (λ n. absurd (n z))) ∙ ap (λ (w : Outcome). placed s x w) e
 
 pub not-allocated : (s : Session) (x d p : ℕ) (o : Outcome) → o ≡ allocate (s .lent) d p → o .refusal ≢ 0
     → answered s o (s .roots) ≡ perform s (Allocate x d p)
-unfolding perform
-not-allocated s x d p o e n =
-    sym (called-refused s o (set (s .roots) x (o .value)) n (rw e (allocate-refused (s .lent) d p))) ∙ ap (λ (w : Outcome). placed s x w) e
+unfolding perform passed
+not-allocated s x d p o e n = rw (sym e, ne-eqb (o .refusal) 0 n, (rw (sym e) at (allocate-refused (s .lent) d p)) n .lent)
 
 pub stored : (s : Session) (x i : ℕ) (operand : Operand) (o : Outcome)
     → o ≡ store (s .lent) (at (s .roots) x) i (operandOf (s .roots) operand) → answered s o (s .roots) ≡ perform s (Store x i operand)
 unfolding perform
-stored s x i operand o e =
-    sym (called-kept s o (rw e (store-refused (s .lent) (at (s .roots) x) i (operandOf (s .roots) operand)))) ∙ ap (λ (w : Outcome). called s w (s .roots)) e
+stored s x i operand o e = rw e (called-kept s _ (λ n. store-refused (s .lent) (at (s .roots) x) i (operandOf (s .roots) operand) n .lent))
 
 pub loaded : (s : Session) (x i : ℕ) (o : Outcome) → o ≡ load (s .lent) (at (s .roots) x) i → answered s o (s .roots) ≡ perform s (Load x i)
 unfolding perform
-loaded s x i o e = sym (called-kept s o (rw e (load-refused (s .lent) (at (s .roots) x) i))) ∙ ap (λ (w : Outcome). called s w (s .roots)) e
+loaded s x i o e = rw e (called-kept s _ (λ n. load-refused (s .lent) (at (s .roots) x) i n .lent))
 
-abbrev pub gathered : Session → CollectOutcome → Stepped
-gathered s o = record { refusal = o .refusal; value = o .words; session = holding s (o .lent) (o .roots) }
-
-collected-is : (s : Session) (o : CollectOutcome) → (o .refusal ≢ 0 → CollectSame (s .lent) (s .roots) o) → collected s o ≡ gathered s o
-unfolding collected accepted refused
-collected-is s o same = by (eqb (o .refusal) 0) refl
-  where
-    by : (b : Bool) → eqb (o .refusal) 0 ≡ b → collected s o ≡ gathered s o
-    by true e = simp (eqb-true (o .refusal) 0 e)
-    by false e = let k = same (eqb-false (o .refusal) 0 e) in simp (e, k .words, k .lent, k .roots)
-
-pub gathers : (s : Session) (o : CollectOutcome) → o ≡ collect (s .lent) (s .roots) (s .hints) → gathered s o ≡ perform s Collect
+pub looked-up : (s : Session) (x v : ℕ) (o : Outcome) → o ≡ lookUp (s .lent) (rootPlus (s .roots) x v) → answered s o (s .roots) ≡ perform s (LookUp x v)
 unfolding perform
-gathers s o e = sym (collected-is s o (rw e (collect-refused (s .lent) (s .roots) (s .hints)))) ∙ ap (collected s) e
+looked-up s x v o e = rw e (called-kept s _ (λ n. look-up-refused (s .lent) (rootPlus (s .roots) x v) n .lent))
+
+pub gathers : (s : Session) (o : CollectOutcome) → o ≡ collect (s .lent) (s .roots) (s .hints)
+    → replying (o .refusal) (o .words) (holding s (o .lent) (o .roots)) ≡ perform s Collect
+unfolding perform
+gathers s o e = rw e (sym (passed-is s _ _ _ (λ n. let k = collect-refused (s .lent) (s .roots) (s .hints) n in rw (k .lent, k .roots) refl)))
 
 -- ---- a start
 
@@ -134,14 +121,15 @@ start-accepted s P T m o e h l a b c =
     rw (e, fresh m P T (laid m Q T h a b c), fresh n P T (blank-laid Q T (s .lent .rec) h), le-leb (T * Q) 8192 l, a, b, c) (simp length-replicate)
 
 -- the tag of a step that is no start
-pub no-start : (t : Step) → OneOf (1 ∷ 2 ∷ 3 ∷ 4 ∷ 5 ∷ 6 ∷ 7 ∷ []) (tagOf the-type t) → isStart t ≡ false
-no-start (Start P T) k = absurd (miss (1 ∷ 2 ∷ 3 ∷ 4 ∷ 5 ∷ 6 ∷ 7 ∷ []) 0 tt k)
+pub no-start : (t : Step) → OneOf (1 ∷ 2 ∷ 3 ∷ 4 ∷ 5 ∷ 6 ∷ 7 ∷ 8 ∷ []) (tagOf the-type t) → isStart t ≡ false
+no-start (Start P T) k = absurd (miss (1 ∷ 2 ∷ 3 ∷ 4 ∷ 5 ∷ 6 ∷ 7 ∷ 8 ∷ []) 0 tt k)
 no-start (Allocate x d p) k = refl
 no-start (Store x i operand) k = refl
 no-start (Load x i) k = refl
 no-start (Hint x y v) k = refl
 no-start (Clear x) k = refl
 no-start Collect k = refl
+no-start (LookUp x v) k = refl
 no-start Bad k = refl
 
 -- pages of 8 words or more that 8,192 words hold
@@ -168,6 +156,7 @@ has-begun false (Load x i) n h = h
 has-begun false (Hint x y v) n h = h
 has-begun false (Clear x) n h = h
 has-begun false Collect n h = h
+has-begun false (LookUp x v) n h = h
 has-begun false Bad n h = h
 
 -- so a step on what is lent, after a start, is a step of the session

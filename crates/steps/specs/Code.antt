@@ -8,7 +8,7 @@ use Rattle.rules.specs.declared.Record.{Record}
 use Rattle.rules.specs.declared.Answer.{Answer}
 use Rattle.rules.specs.Lent.{lent}
 use Rattle.entries.specs.declared.Step.{Step}
-use Rattle.entries.specs.declared.Step.the-variants.{Start, Allocate, Store, Load, Hint, Clear, Collect, Bad}
+use Rattle.entries.specs.declared.Step.the-variants.{Start, Allocate, Store, Load, Hint, Clear, Collect, LookUp, Bad}
 use Rattle.steps.specs.declared.play.Progress.{Progress}
 use Rattle.steps.specs.declared.play.Reply.{Reply}
 use Rattle.steps.specs.Session.{Session, Stepped}
@@ -59,4 +59,5 @@ isStart (Load x i) = false
 isStart (Hint x y v) = false
 isStart (Clear x) = false
 isStart Collect = false
+isStart (LookUp x v) = false
 isStart Bad = false

@@ -8,14 +8,14 @@ use Rattle.rules.specs.Ranges.{from, block, each, has, count, first}
 use Rattle.rules.specs.Header.{headerOf, sizeOf, refsOf, isHeader}
 use Rattle.rules.specs.Pages.{isPageSize, pageAtStart, isShape, pageNamed, pageNamedBefore, pagesOfHint, pagesNamed, isFree, lowestFree, pagesUsed, pagesUnhinted, pagesNeeded, otherLabel}
 use Rattle.rules.specs.Lent.{isLaidOut, isLabel, isOpen, isValid}
-use Rattle.rules.specs.Walk.{walk, behind, starts, stop, isInUse, isStart, isReference, landing, lookUp}
+use Rattle.rules.specs.Walk.{walk, behind, starts, stop, isInUse, isStart, isReference, landing, found}
 use Rattle.rules.specs.Sound.{isBlank, refsGood, isUsedSound, isPageSound, isFillSound, isSound}
 use Rattle.rules.specs.Calls as calls
-use Rattle.rules.specs.Calls.{start, withObject, allocate, load, mayStore, store}
+use Rattle.rules.specs.Calls.{start, inside, withObject, allocate, lookUp, load, mayStore, store}
 use Rattle.rules.specs.Collection.{hintPage, hintPages, takePage, withRoom, top, put, copyObject, forward, forwardRoots, sweepReference, sweepReferences, sweepPage, sweepQueue, freedLabels, freedHeap, planOf, begun, afterHints, afterRoots, afterSweep, collection}
 use Rattle.rules.specs.Collect.{unhinted, hasRoom, refusalOfCollect, refusedCollect, acceptedCollect, collect}
 use Rattle.entries.specs.Entries.{decode}
-use Rattle.steps.specs.Session.{before, refused, accepted, called, collected, blank, perform, step}
+use Rattle.steps.specs.Session.{before, refused, accepted, passed, blank, perform, step}
 use Rattle.lines.specs.Lines.{digits, number, line, noted, ending}
 use Rattle.steps.specs.Run.{rest, run, transcript}
 
@@ -62,17 +62,42 @@ output =
     49 ∷ 54 ∷ 32 ∷ 48 ∷ 32 ∷ 56 ∷ 10 ∷
     101 ∷ 110 ∷ 100 ∷ 32 ∷ 49 ∷ 55 ∷ 32 ∷ 49 ∷ 52 ∷ 32 ∷ 51 ∷ 10 ∷ []
 
+-- Q-2: an object at 8 of 4 words in root 0. Looked up are its start, its last word, the word behind it and, modulo 2^32, the one
+-- before it. Operation 9 is none.
+unfoldable looked : List ℕ
+looked =
+    0 ∷ 0 ∷ 0 ∷ 6 ∷ 8 ∷ 0 ∷ 0 ∷ 0 ∷
+    1 ∷ 0 ∷ 0 ∷ 3 ∷ 0 ∷ 0 ∷ 0 ∷ 0 ∷
+    8 ∷ 0 ∷ 0 ∷ 0 ∷ 0 ∷ 0 ∷ 0 ∷ 0 ∷
+    8 ∷ 0 ∷ 0 ∷ 0 ∷ 3 ∷ 0 ∷ 0 ∷ 0 ∷
+    8 ∷ 0 ∷ 0 ∷ 0 ∷ 4 ∷ 0 ∷ 0 ∷ 0 ∷
+    8 ∷ 0 ∷ 0 ∷ 0 ∷ 255 ∷ 255 ∷ 255 ∷ 255 ∷
+    9 ∷ 0 ∷ 0 ∷ 0 ∷ 0 ∷ 0 ∷ 0 ∷ 0 ∷ []
+
+unfoldable told : List ℕ
+told =
+    48 ∷ 32 ∷ 48 ∷ 32 ∷ 48 ∷ 10 ∷
+    49 ∷ 32 ∷ 48 ∷ 32 ∷ 56 ∷ 10 ∷
+    50 ∷ 32 ∷ 48 ∷ 32 ∷ 56 ∷ 10 ∷
+    51 ∷ 32 ∷ 49 ∷ 48 ∷ 32 ∷ 56 ∷ 10 ∷
+    52 ∷ 32 ∷ 52 ∷ 32 ∷ 48 ∷ 10 ∷
+    53 ∷ 32 ∷ 52 ∷ 32 ∷ 48 ∷ 10 ∷
+    54 ∷ 32 ∷ 57 ∷ 32 ∷ 48 ∷ 10 ∷
+    101 ∷ 110 ∷ 100 ∷ 32 ∷ 55 ∷ 32 ∷ 51 ∷ 32 ∷ 52 ∷ 10 ∷ []
+
 record Examples : Type 0 where
   document01 : transcript input ≡ output
+  look-up : transcript looked ≡ told
   -- "Empty input": `end 0 0 0`
   empty : transcript [] ≡ 101 ∷ 110 ∷ 100 ∷ 32 ∷ 48 ∷ 32 ∷ 48 ∷ 32 ∷ 48 ∷ 10 ∷ []
   -- seven bytes: `0 9 0` and `end 1 0 1`
   seven : transcript (take 7 input) ≡ 48 ∷ 32 ∷ 57 ∷ 32 ∷ 48 ∷ 10 ∷ 101 ∷ 110 ∷ 100 ∷ 32 ∷ 49 ∷ 32 ∷ 48 ∷ 32 ∷ 49 ∷ 10 ∷ []
 
 examples : Examples
-unfolding from block each has count first headerOf sizeOf refsOf isHeader isPageSize pageAtStart isShape pageNamed pageNamedBefore pagesOfHint pagesNamed isFree lowestFree pagesUsed pagesUnhinted pagesNeeded otherLabel isLaidOut isLabel isOpen isValid walk behind starts stop isInUse isStart isReference landing lookUp isBlank refsGood isUsedSound isPageSound isFillSound isSound calls.refused calls.accepted start withObject allocate load mayStore store hintPage hintPages takePage withRoom top put copyObject forward forwardRoots sweepReference sweepReferences sweepPage sweepQueue freedLabels freedHeap planOf begun afterHints afterRoots afterSweep collection unhinted hasRoom refusalOfCollect refusedCollect acceptedCollect collect decode before refused accepted called collected blank perform step digits number line noted ending rest run transcript input output
+unfolding from block each has count first headerOf sizeOf refsOf isHeader isPageSize pageAtStart isShape pageNamed pageNamedBefore pagesOfHint pagesNamed isFree lowestFree pagesUsed pagesUnhinted pagesNeeded otherLabel isLaidOut isLabel isOpen isValid walk behind starts stop isInUse isStart isReference landing found isBlank refsGood isUsedSound isPageSound isFillSound isSound calls.refused inside calls.accepted start withObject allocate lookUp load mayStore store hintPage hintPages takePage withRoom top put copyObject forward forwardRoots sweepReference sweepReferences sweepPage sweepQueue freedLabels freedHeap planOf begun afterHints afterRoots afterSweep collection unhinted hasRoom refusalOfCollect refusedCollect acceptedCollect collect decode before refused accepted passed blank perform step digits number line noted ending rest run transcript input output looked told
 examples = record {
   document01 = refl;
+  look-up = refl;
   empty = refl;
   seven = refl;
 }

@@ -8,12 +8,12 @@ use Rattle.rules.specs.declared.Record.{Record}
 use Rattle.rules.specs.Ranges.{at}
 use Rattle.rules.specs.Pages.{pageAtStart}
 use Rattle.rules.specs.Lent.{Lent, lent}
-use Rattle.rules.specs.Calls.{Outcome, start, allocate, load, store}
+use Rattle.rules.specs.Calls.{Outcome, start, allocate, lookUp, load, store}
 use Rattle.rules.specs.Collect.{CollectOutcome, collect}
 use Rattle.entries.specs.declared.Operand.{Operand}
 use Rattle.entries.specs.declared.Operand.the-variants.{Root, Number}
 use Rattle.entries.specs.declared.Step.{Step}
-use Rattle.entries.specs.declared.Step.the-variants.{Start, Allocate, Store, Load, Hint, Clear, Collect, Bad}
+use Rattle.entries.specs.declared.Step.the-variants.{Start, Allocate, Store, Load, Hint, Clear, Collect, LookUp, Bad}
 use Rattle.entries.specs.Entries.{isAllowed}
 
 -- Whether a start was accepted; what is lent, a heap of exactly P·T words and as many labels and links as pages, with the
@@ -37,7 +37,7 @@ before = record {
   hints = cells;
 }
 
--- a record's answer, "refusal (0 if accepted), value (0 if refused)", and the session after it
+-- a record's answer, "refusal (0 if accepted), value (0 if refused)" but for 10 (Q-2), and the session after it
 pub record Stepped : Type 0 where
   pub refusal : ℕ
   pub value : ℕ
@@ -57,13 +57,16 @@ holding s m roots = record { begun = s .begun; lent = m; roots = roots; hints = 
 abbrev pub hinting : Session → List ℕ → Session
 hinting s hints = record { begun = s .begun; lent = s .lent; roots = s .roots; hints = hints }
 
--- a call's outcome: its value, memory and, if it was accepted, these root cells
-unfoldable pub called : Session → Outcome → List ℕ → Stepped
-called s o roots = cond (eqb (o .refusal) 0) (accepted (o .value) (holding s (o .lent) roots)) (refused (o .refusal) s)
+-- A call's refusal and value, and the session t if it was accepted. The value of a refusal is 0, but for 10.
+unfoldable pub passed : Session → ℕ → ℕ → Session → Stepped
+passed s e v t = record { refusal = e; value = v; session = cond (eqb e 0) t s }
 
--- the same of collect, of which "words copied" is printed
-unfoldable pub collected : Session → CollectOutcome → Stepped
-collected s o = cond (eqb (o .refusal) 0) (accepted (o .words) (holding s (o .lent) (o .roots))) (refused (o .refusal) s)
+-- the call's memory, and these root cells; of collect's counts "words copied" is printed
+abbrev pub called : Session → Outcome → List ℕ → Stepped
+called s o roots = passed s (o .refusal) (o .value) (holding s (o .lent) roots)
+
+abbrev pub collected : Session → CollectOutcome → Stepped
+collected s o = passed s (o .refusal) (o .words) (holding s (o .lent) (o .roots))
 
 -- The memory that a start lends: of the size that P and T ask for. What it held before does not matter, since an accepted
 -- start zeroes it.
@@ -87,9 +90,9 @@ abbrev pub operandOf : List ℕ → Operand → ℕ
 operandOf roots (Root y) = at roots y
 operandOf roots (Number v) = v
 
--- "hint x becomes root y plus v, modulo 2^32"
-abbrev pub hintOf : List ℕ → ℕ → ℕ → ℕ
-hintOf roots y v = (at roots y + v) % 2 ^ 32
+-- "root y plus v, modulo 2^32"
+abbrev pub rootPlus : List ℕ → ℕ → ℕ → ℕ
+rootPlus roots y v = (at roots y + v) % 2 ^ 32
 
 -- the table of operations: what each means, and the value printed
 unfoldable pub perform : Session → Step → Stepped
@@ -97,9 +100,10 @@ perform s (Start P T) = begin s (start (blank (pageAtStart P) T (s .lent .rec)) 
 perform s (Allocate x d p) = placed s x (allocate (s .lent) d p)
 perform s (Store x i operand) = called s (store (s .lent) (at (s .roots) x) i (operandOf (s .roots) operand)) (s .roots)
 perform s (Load x i) = called s (load (s .lent) (at (s .roots) x) i) (s .roots)
-perform s (Hint x y v) = accepted (hintOf (s .roots) y v) (hinting s (set (s .hints) x (hintOf (s .roots) y v)))
+perform s (Hint x y v) = accepted (rootPlus (s .roots) y v) (hinting s (set (s .hints) x (rootPlus (s .roots) y v)))
 perform s (Clear x) = accepted 0 (holding s (s .lent) (set (s .roots) x 0))
 perform s Collect = collected s (collect (s .lent) (s .roots) (s .hints))
+perform s (LookUp x v) = called s (lookUp (s .lent) (rootPlus (s .roots) x v)) (s .roots)
 perform s Bad = refused 9 s
 
 -- "Refusal 9 comes first, but after 1 for a start."

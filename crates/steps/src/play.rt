@@ -11,8 +11,8 @@ ghost use mathlib.Core.Path.{_≡_};
 ghost use mathlib.Core.Bool.{true, false};
 ghost use mathlib.Core.List.{List};
 ghost use Prim.Native.Nat.{ℕ};
-ghost use Rattle.entries.specs.declared.Step.the-variants.{Start, Allocate, Store, Load, Hint, Collect};
-ghost use Rattle.steps.specs.Session.{operandOf, perform, step};
+ghost use Rattle.entries.specs.declared.Step.the-variants.{Start, Allocate, Store, Load, Hint, Collect, LookUp};
+ghost use Rattle.steps.specs.Session.{operandOf, rootPlus, perform, step};
 ghost use Rattle.steps.specs.Code.{playing, replied, session, stepped, notBegun, isStart, Buffers, Within};
 
 // Whether a start was accepted; how many words of the heap and how many pages it asked for; and the control record.
@@ -43,7 +43,7 @@ impl Progress {
     }
 }
 
-// A record's answer: the refusal's number, 0 if accepted; the value, 0 if refused; and the progress.
+// A record's answer: the refusal's number, 0 if accepted; the value, 0 if refused but for 10; and the progress.
 pub struct Reply {
     pub refusal: u32,
     pub value: u32,
@@ -120,11 +120,18 @@ fn load(
     heap::load(heap, labels, links, r, cells::get(roots, x), i)
 }
 
-// Hint x becomes a derived address, before, inside or behind the object at root y.
+// A derived address, before, inside or behind the object at root y.
+fn root_plus(roots: &[u32], y: u32, v: u32) -> u32
+    ensures { λ w. ⌜ w ≡ rootPlus (now (roots .entry)) y v ⌝ }
+{
+    std::num::wrapping_add_u32(cells::get(roots, y), v)
+}
+
+// Hint x becomes a derived address.
 fn hint(roots: &[u32], hints: &mut [u32], r: Record, x: u32, y: u32, v: u32) -> Answer
     ensures { λ a. ⌜ ((heap labels links : List ℕ) → replied a heap labels links (now (roots .entry)) (now (hints .exit)) ≡ perform (playing heap labels links (now (roots .entry)) (now (hints .entry)) r) (Hint x y v)) ⌝ }
 {
-    let word = std::num::wrapping_add_u32(cells::get(roots, y), v);
+    let word = root_plus(roots, y, v);
     cells::put(hints, x, word);
     Answer {
         refusal: 0,
@@ -151,6 +158,21 @@ fn collect(
         value: c.words,
         rec: after,
     }
+}
+
+// What is there at a derived address.
+fn look_up(
+    heap: &[u32],
+    labels: &[u16],
+    links: &[u16],
+    roots: &[u32],
+    r: Record,
+    x: u32,
+    v: u32,
+) -> Answer
+    ensures { λ a. ⌜ ((hints : List ℕ) → replied a (now (heap .entry)) (now (labels .entry)) (now (links .entry)) (now (roots .entry)) hints ≡ perform (playing (now (heap .entry)) (now (labels .entry)) (now (links .entry)) (now (roots .entry)) hints r) (LookUp x v)) ⌝ }
+{
+    heap::look_up(heap, labels, links, r, root_plus(roots, x, v))
 }
 
 // Refusal 9, with the record as it was.
@@ -191,6 +213,7 @@ fn perform(
             }
         }
         Step::Collect => collect(heap, labels, links, roots, hints, r),
+        Step::LookUp { x, v } => look_up(heap, labels, links, roots, r, x, v),
         Step::Start { page: _, pages: _ } => bad(r),
         Step::Bad => bad(r),
     }

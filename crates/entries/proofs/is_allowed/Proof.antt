@@ -50,6 +50,12 @@ may-use-requires-6 c κs = search needs
 enum-told-3 : tie.Need-enum-told-3
 enum-told-3 c = search needs
 
+enum-known-step-6 : tie.Need-enum-known-step-6
+enum-known-step-6 c = search needs
+
+may-use-requires-7 : tie.Need-may-use-requires-7
+may-use-requires-7 c κs = search needs
+
 enum-told-4 : tie.Need-enum-told-4
 enum-told-4 c = search needs
 
@@ -85,7 +91,11 @@ unfolding each
 returns-8 c = simp (c .enum-told3 .given .1, and-true)
 
 returns-9 : tie.Need-returns-9
-returns-9 c = search needs
+unfolding each
+returns-9 c = simp (c .before .before .step6 .given .1) (c .may-use7 .ensures)
+
+returns-10 : tie.Need-returns-10
+returns-10 c = search needs
 
 pub is-allowed-spec : {M : Type 1} → statement M
 is-allowed-spec =
@@ -106,6 +116,8 @@ is-allowed-spec =
     enum-known-step-5
     may-use-requires-6
     enum-told-3
+    enum-known-step-6
+    may-use-requires-7
     enum-told-4
     returns
     returns-2
@@ -115,4 +127,5 @@ is-allowed-spec =
     returns-6
     returns-7
     returns-8
-    returns-9)
+    returns-9
+    returns-10)

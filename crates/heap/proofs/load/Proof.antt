@@ -10,7 +10,7 @@ use Rattle.rules.specs.declared.Found.the-variants.{Start}
 use Rattle.rules.specs.Ranges.{at}
 use Rattle.rules.specs.Header.{sizeOf}
 use Rattle.rules.specs.Lent.{Lent, lent, isValid}
-use Rattle.rules.specs.Walk.{lookUp}
+use Rattle.rules.specs.Walk.{found}
 use Rattle.rules.specs.Calls.{load}
 use Rattle.heap.proofs.Laws.{not-start, found-within}
 use borrow.Author.Needs.{needs}
@@ -24,13 +24,13 @@ memory c = lent (c .args .heap .now) (c .args .labels .now) (c .args .links .now
 valid : (c : tie.Else1) → isValid (memory (c .before .before .before .before .before)) ≡ true
 valid c = sym (c .before .is-valid .ensures) ∙ not-false _ (c .if1 .left)
 
--- look-up found the object, with its header
-found : (c : tie.After-found) → lookUp (memory (c .before .before .before .before .before .before .before .before)) (c .before .before .before .before .before .before .before .before .args .address) ≡ Start (c .found .given .0 .0)
-found c = sym (c .before .before .look-up .ensures _) ∙ c .found .given .1
+-- the object was found, with its header
+object : (c : tie.After-found) → found (memory (c .before .before .before .before .before .before .before .before)) (c .before .before .before .before .before .before .before .before .args .address) ≡ Start (c .found .given .0 .0)
+object c = sym (c .before .before .find .ensures _) ∙ c .found .given .1
 
 -- it has a size, and lies in the heap
 within : (c : tie.After-found) → (1 ≤ sizeOf (c .found .given .0 .0)) × (c .before .before .before .before .before .before .before .before .args .address + sizeOf (c .found .given .0 .0) ≤ length (c .before .before .before .before .before .before .before .before .args .heap .now))
-within c = found-within (memory (c .before .before .before .before .before .before .before .before)) (c .before .before .before .before .before .before .before .before .args .address) _ (valid (c .before .before .before)) (found c)
+within c = found-within (memory (c .before .before .before .before .before .before .before .before)) (c .before .before .before .before .before .before .before .before .args .address) _ (valid (c .before .before .before)) (object c)
 
 is-valid-requires : tie.Need-is-valid-requires
 is-valid-requires c κs = search needs
@@ -42,18 +42,18 @@ returns : tie.Need-returns
 unfolding load
 returns c = rw (sym (c .before .before .is-valid .ensures) ∙ not-true _ (c .before .if1 .taken)) (c .refused .ensures _ _ _)
 
-look-up-requires : tie.Need-look-up-requires
-look-up-requires c κs = search needs
+find-requires : tie.Need-find-requires
+find-requires c κs = search needs
 
 enum-known-found : tie.Need-enum-known-found
 enum-known-found c = search needs
 
-refused-requires-2 : tie.Need-refused-requires-2
-refused-requires-2 c κs = search needs
+told-requires : tie.Need-told-requires
+told-requires c κs = search needs
 
 returns-2 : tie.Need-returns-2
 unfolding load
-returns-2 c = rw ((valid (c .before .before .before)), ← (c .before .before .look-up .ensures (c .before .before .before .before .before .before .before .before .args .links .now)), not-start (c .before .before .look-up .result) (c .before .match .keys2)) (c .refused2 .ensures _ _ _)
+returns-2 c = rw ((valid (c .before .before .before)), ← (c .before .before .find .ensures (c .before .before .before .before .before .before .before .before .args .links .now)), not-start (c .before .before .find .result) (c .before .match .keys2)) (c .told .ensures _ _ _)
 
 size-of-requires : tie.Need-size-of-requires
 size-of-requires c κs = search needs
@@ -61,12 +61,12 @@ size-of-requires c κs = search needs
 sub-if2 : tie.Need-sub-if2
 sub-if2 c = omega (arith, (within (c .before .before)), c .size-of .ensures .0)
 
-refused-requires-3 : tie.Need-refused-requires-3
-refused-requires-3 c κs = search needs
+refused-requires-2 : tie.Need-refused-requires-2
+refused-requires-2 c κs = search needs
 
 returns-3 : tie.Need-returns-3
 unfolding load
-returns-3 c = rw ((valid (c .before .before .before .before .before .before .before)), (found (c .before .before .before .before)), le-ltb _ _ (rw (c .before .before .size-of .ensures .0) at (c .before .if2 .taken))) (c .refused3 .ensures _ _ _)
+returns-3 c = rw ((valid (c .before .before .before .before .before .before .before)), (object (c .before .before .before .before)), le-ltb _ _ (rw (c .before .before .size-of .ensures .0) at (c .before .if2 .taken))) (c .refused2 .ensures _ _ _)
 
 add-at : tie.Need-add-at
 add-at c = search needs
@@ -85,7 +85,7 @@ accepted-requires c κs = search needs
 
 returns-4 : tie.Need-returns-4
 unfolding load
-returns-4 c = rw ((valid (c .before .before .before .before .before .before .before .before)), (found (c .before .before .before .before .before)), lt-ltb _ _ (rw (c .before .before .before .size-of .ensures .0) at (c .before .before .if2 .left))) (c .accepted .ensures _ _ _)
+returns-4 c = rw ((valid (c .before .before .before .before .before .before .before .before)), (object (c .before .before .before .before .before)), lt-ltb _ _ (rw (c .before .before .before .size-of .ensures .0) at (c .before .before .if2 .left))) (c .accepted .ensures _ _ _)
 
 pub load-spec : {M : Type 1} → statement M
 load-spec =
@@ -94,13 +94,13 @@ load-spec =
     is-valid-requires
     refused-requires
     returns
-    look-up-requires
+    find-requires
     enum-known-found
-    refused-requires-2
+    told-requires
     returns-2
     size-of-requires
     sub-if2
-    refused-requires-3
+    refused-requires-2
     returns-3
     add-at
     add-at-2

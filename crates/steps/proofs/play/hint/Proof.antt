@@ -4,11 +4,8 @@ use borrow.Author.Needs.{needs}
 use Rattle.steps.proofs.play.hint.Statement.{statement}
 use Rattle.steps.proofs.play.hint.Tie as tie
 
-get-requires : tie.Need-get-requires
-get-requires c κs = search needs
-
-wrapping-add-u32-requires : tie.Need-wrapping-add-u32-requires
-wrapping-add-u32-requires c κs = search needs
+root-plus-requires : tie.Need-root-plus-requires
+root-plus-requires c κs = search needs
 
 put-requires : tie.Need-put-requires
 put-requires c κs = search needs
@@ -18,8 +15,8 @@ same-length c = search needs
 
 returns : tie.Need-returns
 unfolding perform accepted
-returns c = λ heap labels links. rw (c .before .before .put .ensures, c .before .before .before .before .wrapping-add-u32 .ensures, c .before .before .before .before .before .get .ensures)
+returns c = λ heap labels links. rw (c .before .before .put .ensures, c .before .before .before .before .root-plus .ensures)
 
 pub hint-spec : {M : Type 1} → statement M
 hint-spec =
-    tie.close (tie.spec get-requires wrapping-add-u32-requires put-requires same-length returns)
+    tie.close (tie.spec root-plus-requires put-requires same-length returns)

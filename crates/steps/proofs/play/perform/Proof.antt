@@ -48,6 +48,12 @@ enum-told c = search needs
 collect-requires : tie.Need-collect-requires
 collect-requires c κs = search needs
 
+enum-known-asked-6 : tie.Need-enum-known-asked-6
+enum-known-asked-6 c = search needs
+
+look-up-requires : tie.Need-look-up-requires
+look-up-requires c κs = search needs
+
 enum-told-2 : tie.Need-enum-told-2
 enum-told-2 c = search needs
 
@@ -139,12 +145,27 @@ same-length-20 c = search needs
 returns-6 : tie.Need-returns-6
 returns-6 c = rw (c .before .before .before .before .before .before .before .before .before .before .before .before .before .before .enum-told .given .1) (c .before .before .before .before .before .before .before .before .collect .ensures)
 
+same-length-21 : tie.Need-same-length-21
+same-length-21 c = search needs
+
+same-length-22 : tie.Need-same-length-22
+same-length-22 c = search needs
+
+same-length-23 : tie.Need-same-length-23
+same-length-23 c = search needs
+
+same-length-24 : tie.Need-same-length-24
+same-length-24 c = search needs
+
 returns-7 : tie.Need-returns-7
-returns-7 c = absurd (no-start (sym (ap isStart (c .before .enum-told2 .given .1)) ∙ c .before .before .before .before .before .before .before .before .pre))
+returns-7 c = rw (c .before .before .before .before .before .before .asked6 .given .1) (c .look-up .ensures _)
 
 returns-8 : tie.Need-returns-8
+returns-8 c = absurd (no-start (sym (ap isStart (c .before .enum-told2 .given .1)) ∙ c .before .before .before .before .before .before .before .before .pre))
+
+returns-9 : tie.Need-returns-9
 unfolding perform refused
-returns-8 c = rw (c .before .enum-told3 .given .1, c .bad2 .ensures)
+returns-9 c = rw (c .before .enum-told3 .given .1, c .bad2 .ensures)
 
 pub perform-spec : {M : Type 1} → statement M
 perform-spec =
@@ -162,6 +183,8 @@ perform-spec =
     put-requires
     enum-told
     collect-requires
+    enum-known-asked-6
+    look-up-requires
     enum-told-2
     bad-requires
     enum-told-3
@@ -192,5 +215,10 @@ perform-spec =
     same-length-19
     same-length-20
     returns-6
+    same-length-21
+    same-length-22
+    same-length-23
+    same-length-24
     returns-7
-    returns-8)
+    returns-8
+    returns-9)

@@ -1,4 +1,4 @@
--- `layout::walk::look_up` meets its contract: each test of the code is a test of the definition, and on a page in use the
+-- `layout::walk::find` meets its contract: each test of the code is a test of the definition, and on a page in use the
 -- walk's stop and last object tell where the address lands. Assumes nothing.
 use mathlib.Core.Path.{refl, sym, _∙_}
 use mathlib.Core.List.{List}
@@ -9,8 +9,8 @@ use Rattle.rules.specs.Sound.{InUse}
 use Rattle.laws.specs.Pages.{split-page}
 use Rattle.laws.specs.LookUp.{look-no-page, look-low, look-high, look-label, look-past, look-start, look-inside}
 use borrow.Author.Needs.{needs}
-use Rattle.layout.proofs.walk.look_up.Statement.{statement}
-use Rattle.layout.proofs.walk.look_up.Tie as tie
+use Rattle.layout.proofs.walk.find.Statement.{statement}
+use Rattle.layout.proofs.walk.find.Tie as tie
 
 -- what is lent, whatever the links hold
 abbrev memory : (c : tie.Else4) → List ℕ → Lent
@@ -79,8 +79,8 @@ cast-t13 c = omega (arith, c .before .before .walk .ensures .1 .1 (base (c .befo
 returns-7 : tie.Need-returns-7
 returns-7 c = λ links. sym (look-inside (memory (c .before .before .before) links) _ (used (c .before .before .before) links) _ refl _ _ (c .before .before .walk .ensures .0 .0) (c .before .before .walk .ensures .0 .1) (pos (c .before .before .before)) (c .before .if5 .left) (c .if6 .left))
 
-pub look-up-spec : {M : Type 1} → statement M
-look-up-spec =
+pub find-spec : {M : Type 1} → statement M
+find-spec =
     tie.close
     (tie.spec
     returns
