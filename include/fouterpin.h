@@ -39,7 +39,7 @@
    REFUSALS. Each answer begins with a refusal number, 0 where the call was accepted. A refused call has changed nothing: not one
    word, label, link or root; its record is the one given, and its value (for collect, its four counts) is 0, except with 10: there it is
    the address of the object that the address given is inside. Tests go in the order of the numbers, with 10 in the place of 4, except that
-   collect tests 1, 7, 6, 8. (9 is refused by the session program alone.) */
+   collect tests 1, 7, 6, 8. (9 is given by the session program alone.) */
 #ifndef FOUTERPIN_H
 #define FOUTERPIN_H
 
@@ -60,7 +60,7 @@ enum {
   FOUTERPIN_BAD_REFERENCE = 6, /* store: a value for a reference, collect: a root cell, that is neither 0 nor an object's address */
   FOUTERPIN_UNSOUND = 7,       /* collect: the heap is damaged (the whole of it is tested first) */
   FOUTERPIN_NO_ROOM = 8,       /* collect: the copies might need more pages than are free */
-  FOUTERPIN_INSIDE = 10        /* load, store, look_up: the address is inside an object, behind its header; the value is the object's */
+  FOUTERPIN_INSIDE = 10        /* load, store, look_up: the address is inside an object, behind its header; the value is its address */
 };
 
 /* The control record. */

@@ -36,7 +36,7 @@ by-refusal {Q} o f g = go (ℕ-discrete (o .refusal) 0)
     go (yes e) = f e
     go (no n) = g n
 
--- and so for what is found at an address: an object start, or the inside of an object and refusal 10, or nothing and 4
+-- what holds of each case of what is found at an address, an object start, the inside of an object or nothing, holds
 pub by-found : (Q : Outcome → Type 0) (m : Lent) (a : ℕ) (f : Found) (go : ℕ → Outcome)
     → ((w : ℕ) → f ≡ Start w → Q (go w)) → ((s : ℕ) → f ≡ Inside s → Q (inside s m)) → Q (refused 4 m) → Q (onStart f a m go)
 by-found Q m a (Start w) go start within none = start w refl

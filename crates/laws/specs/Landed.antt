@@ -22,6 +22,12 @@ use Rattle.laws.specs.Walk.{page-steps, met}
 use Rattle.laws.specs.LookUp.{in-use-says, in-use-is, found-object}
 use Rattle.laws.specs.Objects.{met-object, object-page, objects-apart}
 
+-- what is found differs in kind
+abbrev kind : Found → ℕ
+kind (Start w) = 0
+kind (Inside s) = 1
+kind Nothing = 2
+
 -- ---- among the objects of one walk
 
 -- x is a's object: a is behind its start and before its end
@@ -31,21 +37,15 @@ holds h a x = ltb x a && ltb a (x + sizeOf (at h x))
 module _ (h : List ℕ) (a : ℕ) where
   landing-inside : (s : ℕ) (xs : List ℕ) → landing h a xs ≡ Inside s → List·Memᴰ s xs × (holds h a s ≡ true)
   unfolding landing
-  landing-inside s [] e = absurd (not-inside e)
-    where
-      not-inside : Nothing ≡ Inside s → ⊥
-      not-inside e = let z : _≡_ {A = ℕ} 0 1 = cc in omega arith
+  landing-inside s [] e = absurd (omega (arith, ap kind e))
   landing-inside s (x ∷ xs) e = go (eqb a x) (holds h a x) refl e (landing-inside s xs)
     where
-      not-start : Start (at h x) ≡ Inside s → ⊥
-      not-start e = let z : _≡_ {A = ℕ} 0 1 = cc in omega arith
-
       same : Inside x ≡ Inside s → x ≡ s
       same e = cc
 
       go : (b i : Bool) → holds h a x ≡ i → cond b (Start (at h x)) (cond i (Inside x) (landing h a xs)) ≡ Inside s
           → (landing h a xs ≡ Inside s → List·Memᴰ s xs × (holds h a s ≡ true)) → List·Memᴰ s (x ∷ xs) × (holds h a s ≡ true)
-      go true i q e ih = absurd (not-start e)
+      go true i q e ih = absurd (omega (arith, ap kind e))
       go false true q e ih = (List·Memᴰ·head (sym (same e)), ap (holds h a) (sym (same e)) ∙ q)
       go false false q e ih = let (k, t) = ih e in (List·Memᴰ·tail k, t)
 
@@ -54,16 +54,10 @@ module _ (h : List ℕ) (a : ℕ) where
   landing-nothing [] e s k = absurd (List·Memᴰ·not-nil k)
   landing-nothing (x ∷ xs) e s k = go (eqb a x) (holds h a x) refl refl e (List·Memᴰ·cases-cons k) (λ t j. landing-nothing xs t s j)
     where
-      not-start : Start (at h x) ≡ Nothing → ⊥
-      not-start e = let z : _≡_ {A = ℕ} 0 1 = cc in omega arith
-
-      not-inside : Inside x ≡ Nothing → ⊥
-      not-inside e = let z : _≡_ {A = ℕ} 0 1 = cc in omega arith
-
       go : (b i : Bool) → eqb a x ≡ b → holds h a x ≡ i → cond b (Start (at h x)) (cond i (Inside x) (landing h a xs)) ≡ Nothing → (s ≡ x) ⊎ List·Memᴰ s xs
           → (landing h a xs ≡ Nothing → List·Memᴰ s xs → (a ≢ s) × (holds h a s ≡ false)) → (a ≢ s) × (holds h a s ≡ false)
-      go true i p q e d ih = absurd (not-start e)
-      go false true p q e d ih = absurd (not-inside e)
+      go true i p q e d ih = absurd (omega (arith, ap kind e))
+      go false true p q e d ih = absurd (omega (arith, ap kind e))
       go false false p q e (inl z) ih = (λ j. eqb-false a x p (j ∙ z), ap (holds h a) z ∙ q)
       go false false p q e (inr j) ih = ih e j
 
@@ -89,15 +83,12 @@ module _ (m : Lent) (a : ℕ) where
   unfolding found
   found-inside s e = go (isInUse m (a / m .rec .page)) refl e
     where
-      not-inside : Nothing ≡ Inside s → ⊥
-      not-inside e = let z : _≡_ {A = ℕ} 0 1 = cc in omega arith
-
       go : (b : Bool) → isInUse m (a / m .rec .page) ≡ b → cond b (landing (m .heap) a (starts m (a / m .rec .page))) Nothing ≡ Inside s → LiesInside m a s
       go true u e =
           let U = in-use-says m (a / m .rec .page) u in
           let (k, t) = landing-inside (m .heap) a s (starts m (a / m .rec .page)) e in
           record { object = met-object m (used-pos m a U) (a / m .rec .page) s U k; behind = ltb-true s a (and-left _ _ t); before = ltb-true _ _ (and-right (ltb s a) _ t) }
-      go false u e = absurd (not-inside e)
+      go false u e = absurd (omega (arith, ap kind e))
 
   pub found-nothing : found m a ≡ Nothing → (s : ℕ) → IsObject m s → Apart m a s
   unfolding found
