@@ -12,7 +12,7 @@ unfoldable pub rest : ℕ → Tally → List ℕ
 rest zero t = ending t
 rest (suc n) t = line (t .records) 9 0 ++ ending (noted t 9)
 
--- "Each line is record number from 0, refusal (0 if accepted), value (0 if refused)"; `go` tells what follows
+-- "Each line is record number from 0, refusal (0 if accepted), value (0 if refused)", but for 10 (Q-2); `go` tells what follows
 abbrev pub answered : (Session → Tally → List ℕ) → Tally → Stepped → List ℕ
 answered go t o = line (t .records) (o .refusal) (o .value) ++ go (o .session) (noted t (o .refusal))
 
