@@ -1,9 +1,9 @@
 // Collect: its tests in the order 1, 7, 6, 8, and then the four steps. Nothing lent is changed before all tests have passed.
+use hints::unhinted;
 use layout::pages;
 use layout::record;
 use layout::tables;
 use layout::walk;
-use phases::unhinted;
 use rules::Collected;
 use rules::Record;
 ghost use mathlib.Core.Path.{_≡_};

@@ -12,9 +12,10 @@ use Rattle.rules.specs.Ranges.{at}
 use Rattle.rules.specs.Header.{sizeOf}
 use Rattle.rules.specs.Collection.{Plan, State, Rooted, withRoom, top, put, copyObject, forward, forwardRoots}
 use Rattle.laws.specs.Safe.{SafeCopy, SafeForward, SafeRoots}
+use Rattle.hints.specs.declared.Shape.{Shape}
+use Rattle.hints.specs.Code.{plan}
 use Rattle.phases.specs.declared.Gather.{Gather}
-use Rattle.phases.specs.declared.Shape.{Shape}
-use Rattle.phases.specs.Code.{plan, pagesOf, stateOf, forwardedOf, rootedOf, Tied, copied}
+use Rattle.phases.specs.Code.{pagesOf, stateOf, forwardedOf, rootedOf, Tied, copied}
 
 -- ---- n words from x on to y on, of which i are copied
 

@@ -1,6 +1,5 @@
-pub mod Joining
+pub mod Taking
 pub mod Copying
 pub mod Sweeping
 pub mod Freeing
 pub mod Running
-pub mod Marking

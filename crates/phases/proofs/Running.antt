@@ -14,10 +14,11 @@ use Rattle.rules.specs.Collection.{Pages, State, Rooted, plainly, planOf, begun
 use Rattle.rules.specs.Collect.{acceptedCollect, collectOutcome}
 use Rattle.laws.specs.Valid.{Layout}
 use Rattle.laws.specs.Safe.{SafeHints, SafeRoots, SafeQueue, SafeRun}
+use Rattle.hints.specs.declared.Shape.{Shape}
+use Rattle.hints.specs.Code.{plan, hintedOf}
+use Rattle.hints.specs.Queue.{Queued, queue-length}
 use Rattle.phases.specs.declared.Gather.{Gather}
-use Rattle.phases.specs.declared.Shape.{Shape}
-use Rattle.phases.specs.Code.{plan, pagesOf, hintedOf, stateOf, rootedOf, Queued, Tied, beginOf, shapeOf, answerOf}
-use Rattle.phases.proofs.Joining.{queue-length}
+use Rattle.phases.specs.Code.{pagesOf, stateOf, rootedOf, Tied, beginOf, shapeOf, answerOf}
 
 -- the other label is 1 or 2
 pub other-small : (l : ℕ) → otherLabel l ≤ 2

@@ -14,10 +14,11 @@ use Rattle.rules.specs.Header.{sizeOf, refsOf, isHeader}
 use Rattle.rules.specs.Collection.{Plan, State, forward, sweepReference, sweepReferences, sweepPage, sweepQueue}
 use Rattle.laws.specs.Headers.{Header, header-says, header-full}
 use Rattle.laws.specs.Safe.{SafeForward, SafeReferences, SafePage, SafeQueue}
+use Rattle.hints.specs.declared.Shape.{Shape}
+use Rattle.hints.specs.Code.{plan}
+use Rattle.hints.specs.Queue.{Queued, queue-length}
 use Rattle.phases.specs.declared.Gather.{Gather}
-use Rattle.phases.specs.declared.Shape.{Shape}
-use Rattle.phases.specs.Code.{plan, stateOf, forwardedOf, Queued}
-use Rattle.phases.proofs.Joining.{queue-length}
+use Rattle.phases.specs.Code.{stateOf, forwardedOf}
 
 -- ---- the references of an object, from address w up to `stop`
 

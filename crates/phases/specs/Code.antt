@@ -2,27 +2,20 @@
 -- The queue is links[0 .. tail), in order of joining; no moves are written down. The cursor is no part of the state, and
 -- `Tied` says what it has to do with it.
 use mathlib.Core.Path.{_≡_}
-use mathlib.Core.Bool.{Bool, false, not, _&&_}
 use mathlib.Core.List.{List, []}
-use Prim.Native.Nat.{ℕ, _+_, _-_, _≤_}
-use lib.ListN.{length, getD, take}
+use Prim.Native.Nat.{ℕ, _+_, _-_}
+use lib.ListN.{take}
 use Rattle.rules.specs.declared.Record.{Record}
 use Rattle.rules.specs.declared.Collected.{Collected}
-use Rattle.rules.specs.Pages.{isFree, lowestFree, otherLabel}
+use Rattle.rules.specs.Pages.{lowestFree, otherLabel}
 use Rattle.rules.specs.Lent.{opening, relabelled}
-use Rattle.rules.specs.Collection.{Plan, Pages, State, Forwarded, Rooted, plainly}
+use Rattle.rules.specs.Collection.{Pages, State, Forwarded, Rooted}
+use Rattle.hints.specs.declared.Shape.{Shape}
+use Rattle.hints.specs.Queue.{Queued}
 use Rattle.phases.specs.declared.Gather.{Gather}
-use Rattle.phases.specs.declared.Shape.{Shape}
-
-abbrev pub plan : Shape → Plan
-plan k = record { page = k .page; lo = 1; hi = k .pages; old = k .old; new = k .new; logs = plainly }
 
 abbrev pub pagesOf : List ℕ → List ℕ → Gather → Pages
 pagesOf labels links g = record { labels = labels; queue = take (g .tail) links; copy = g .copy; fill = g .fill }
-
--- while the hints are read: n pages have joined, and there is no copy page
-abbrev pub hintedOf : Shape → List ℕ → List ℕ → ℕ → Pages
-hintedOf k labels links n = record { labels = labels; queue = take n links; copy = 0; fill = k .page }
 
 abbrev pub stateOf : List ℕ → List ℕ → List ℕ → Gather → State
 stateOf heap labels links g = record { heap = heap; pages = pagesOf labels links g; objects = g .objects; words = g .words; moves = [] }
@@ -33,12 +26,8 @@ forwardedOf v s = record { value = v; state = s }
 abbrev pub rootedOf : List ℕ → State → Rooted
 rootedOf roots s = record { roots = roots; state = s }
 
--- the queue, n pages long, has its links, as many as there are labels
-pub record Queued (labels links : List ℕ) (n : ℕ) : Type 0 where
-  pub each : length links ≡ length labels
-  pub tail : n ≤ length links
-
--- and no page of the block below the cursor is free: the first free page from the cursor on is the lowest
+-- the queue has its links, and no page of the block below the cursor is free: the first free page from the cursor on is
+-- the lowest
 pub record Tied (k : Shape) (labels links : List ℕ) (g : Gather) : Type 0 where
   pub queued : Queued labels links (g .tail)
   pub cursor : lowestFree labels (g .cursor) (k .pages) ≡ lowestFree labels 1 (k .pages)
@@ -70,9 +59,3 @@ answerOf r n g = record {
   words = g .words;
   rec = opening (relabelled r (otherLabel (r .label))) (g .copy) (g .fill);
 }
-
--- ---- before the steps
-
--- page g is in use and has no mark
-abbrev pub unmarked : List ℕ → List Bool → ℕ → Bool
-unmarked labels marks g = not (isFree labels g) && not (getD marks g false)

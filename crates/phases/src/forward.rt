@@ -1,19 +1,19 @@
 // Forwarding: pages taken for copies, the copy of an object, one value, and step 2, the roots.
 use crate::Gather;
-use crate::Shape;
+use hints::Shape;
 use layout::header;
-use layout::record;
 use layout::tables;
 ghost use mathlib.Core.Path.{_≡_};
 ghost use mathlib.Core.Logic.{_⊎_};
 ghost use Prim.Native.Nat.{_+_, _*_, _≤_, _<_};
-ghost use lib.ListN.{length, set, take, drop};
+ghost use lib.ListN.{length, take, drop};
 ghost use lib.Seq.{sets};
 ghost use Rattle.rules.specs.Ranges.{at};
 ghost use Rattle.rules.specs.Header.{sizeOf};
 ghost use Rattle.rules.specs.Collection.{takePage, withRoom, copyObject, forward, forwardRoots};
 ghost use Rattle.laws.specs.Safe.{SafeTake, SafeCopy, SafeForward, SafeRoots};
-ghost use Rattle.phases.specs.Code.{plan, pagesOf, stateOf, forwardedOf, rootedOf, Tied};
+ghost use Rattle.hints.specs.Code.{plan};
+ghost use Rattle.phases.specs.Code.{pagesOf, stateOf, forwardedOf, rootedOf, Tied};
 
 // What forwarding gives: the value, and the state after it.
 pub struct Moved {

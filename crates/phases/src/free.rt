@@ -1,5 +1,5 @@
 // Step 4: pages still with the old label are zeroed and become free.
-use crate::Shape;
+use hints::Shape;
 ghost use mathlib.Core.Path.{_≡_};
 ghost use mathlib.Core.Bool.{cond};
 ghost use Prim.Native.Nat.{_+_, _*_, _≤_, _<_};

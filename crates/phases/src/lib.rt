@@ -1,13 +1,12 @@
-// The four steps of a collection: hints, roots, the queue, freeing; and, before them, the count of pages
-// that no hint names. These are no calls for users. What `run` and its helpers do is safe only where the
-// tests of collect have passed: their `requires` say so, by the predicates of `laws` (Safe.antt) that
-// follow the definitions step by step. Under it each equals its definition in `rules` (Collection.antt).
+// The four steps of a collection: hints, which have a crate of their own, roots, the queue, freeing. These
+// are no calls for users. What `run` and its helpers do is safe only where the tests of collect have
+// passed: their `requires` say so, by the predicates of `laws` (Safe.antt) that follow the definitions
+// step by step. Under it each equals its definition in `rules` (Collection.antt).
 pub mod forward;
 pub mod free;
-pub mod hints;
 pub mod sweep;
-pub mod unhinted;
 
+use hints::Shape;
 use layout::pages;
 use layout::tables;
 use rules::Collected;
@@ -20,14 +19,6 @@ ghost use Rattle.rules.specs.Collect.{collectOutcome, acceptedCollect};
 ghost use Rattle.laws.specs.Valid.{Layout};
 ghost use Rattle.laws.specs.Safe.{SafeRun};
 ghost use Rattle.phases.specs.Code.{taken, copied, beginOf, shapeOf, answerOf};
-
-// What stays the same during a collection: P, T, the old label and the new one.
-pub struct Shape {
-    pub page: u32,
-    pub pages: u32,
-    pub old: u32,
-    pub new: u16,
-}
 
 // The state of a collection beside the lent slices. The queue is links[0..tail); no page below the cursor
 // is free; copies go to the page `copy`, 0 before the first, at its fill; objects and words were copied.

@@ -1,15 +1,16 @@
 // Step 3: each page in the queue in order, each object on it in walk order, each reference in order is
 // forwarded. Hinted pages stand first in the queue, and pages taken meanwhile join it.
 use crate::Gather;
-use crate::Shape;
 use crate::forward;
+use hints::Shape;
 use layout::header;
 ghost use mathlib.Core.Path.{_≡_};
 ghost use Prim.Native.Nat.{_+_, _-_, _≤_};
 ghost use lib.ListN.{length};
 ghost use Rattle.rules.specs.Collection.{sweepReferences, sweepPage, sweepQueue};
 ghost use Rattle.laws.specs.Safe.{SafeReferences, SafePage, SafeQueue};
-ghost use Rattle.phases.specs.Code.{plan, stateOf, Tied};
+ghost use Rattle.hints.specs.Code.{plan};
+ghost use Rattle.phases.specs.Code.{stateOf, Tied};
 
 // The references of one object, the words from address `first` up to `stop`.
 pub fn sweep_references(

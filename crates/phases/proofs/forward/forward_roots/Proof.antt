@@ -4,7 +4,8 @@ use Prim.Native.Nat.{_-_}
 use native.Mathlib.Omega.{arith}
 use lib.ListN.{length, length-set}
 use Rattle.rules.specs.Collection.{forwardRoots}
-use Rattle.phases.specs.Code.{plan, stateOf, Tied}
+use Rattle.hints.specs.Code.{plan}
+use Rattle.phases.specs.Code.{stateOf, Tied}
 use Rattle.phases.proofs.Copying.{Rooting, rooting-end, rooting-safe, rooting-turn}
 use borrow.Author.Needs.{needs}
 use Rattle.phases.proofs.forward.forward_roots.Statement.{statement}

@@ -3,7 +3,7 @@ use mathlib.Core.Path.{refl}
 use Prim.Native.Nat.{_<_}
 use native.Mathlib.Omega.{arith}
 use lib.ListN.{length}
-use Rattle.phases.proofs.Joining.{take-fits, take-is, take-tied}
+use Rattle.phases.proofs.Taking.{take-fits, take-is, take-tied}
 use borrow.Author.Needs.{needs}
 use Rattle.phases.proofs.forward.take_page.Statement.{statement}
 use Rattle.phases.proofs.forward.take_page.Tie as tie

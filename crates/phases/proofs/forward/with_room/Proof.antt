@@ -1,7 +1,7 @@
 -- `phases::forward::with_room` meets its contract. n words fit the copy page, or a page is taken. Assumes nothing.
 use mathlib.Core.Path.{refl, _∙_}
 use native.Mathlib.Omega.{arith}
-use Rattle.phases.proofs.Joining.{room-fits, room-taken}
+use Rattle.phases.proofs.Taking.{room-fits, room-taken}
 use borrow.Author.Needs.{needs}
 use Rattle.phases.proofs.forward.with_room.Statement.{statement}
 use Rattle.phases.proofs.forward.with_room.Tie as tie

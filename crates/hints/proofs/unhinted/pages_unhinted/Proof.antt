@@ -1,10 +1,10 @@
--- `phases::unhinted::pages_unhinted` meets its contract. A mark stands on each page that a hint names, and on no other. Assumes nothing.
+-- `hints::unhinted::pages_unhinted` meets its contract. A mark stands on each page that a hint names, and on no other. Assumes nothing.
 use Rattle.rules.specs.Pages.{pagesNamed}
 use mathlib.Core.Path.{_∙_}
-use Rattle.phases.proofs.Marking.{unmarked-is}
+use Rattle.hints.proofs.Marking.{unmarked-is}
 use borrow.Author.Needs.{needs}
-use Rattle.phases.proofs.unhinted.pages_unhinted.Statement.{statement}
-use Rattle.phases.proofs.unhinted.pages_unhinted.Tie as tie
+use Rattle.hints.proofs.unhinted.pages_unhinted.Statement.{statement}
+use Rattle.hints.proofs.unhinted.pages_unhinted.Tie as tie
 
 mark-named-requires : tie.Need-mark-named-requires
 mark-named-requires c κs = search needs

@@ -1,15 +1,16 @@
--- `phases::hints::hint_words` meets its contract. The loop's invariant: what is left of the hints gives what all of them give at first, and is safe. Assumes nothing.
+-- `hints::hint_words` meets its contract. The loop's invariant: what is left of the hints gives what all of them give at first, and is safe. Assumes nothing.
 use mathlib.Core.Path.{_≡_, refl, _∙_}
 use Prim.Native.Nat.{zero-le, _-_}
 use lib.ListN.{length, drop}
 use Rattle.rules.specs.Pages.{pagesNamed}
 use Rattle.rules.specs.Collection.{hintPages}
 use Rattle.laws.specs.Safe.{SafeHints}
-use Rattle.phases.specs.Code.{plan, hintedOf, Queued}
-use Rattle.phases.proofs.Joining.{hints-end, hints-safe, hints-next, hints-turn}
+use Rattle.hints.specs.Code.{plan, hintedOf}
+use Rattle.hints.specs.Queue.{Queued}
+use Rattle.hints.proofs.Joining.{hints-end, hints-safe, hints-next, hints-turn}
 use borrow.Author.Needs.{needs}
-use Rattle.phases.proofs.hints.hint_words.Statement.{statement}
-use Rattle.phases.proofs.hints.hint_words.Tie as tie
+use Rattle.hints.proofs.hint_words.Statement.{statement}
+use Rattle.hints.proofs.hint_words.Tie as tie
 
 abbrev Inv-loop : tie.InvT-loop
 Inv-loop labels₀ links₀ k hints queued₀ i₀ labels links queued i = ((hintPages (plan k) (pagesNamed (k .page) 1 (k .pages) (drop i hints)) (hintedOf k labels links queued) ≡ hintPages (plan k) (pagesNamed (k .page) 1 (k .pages) hints) (hintedOf k labels₀ links₀ 0))

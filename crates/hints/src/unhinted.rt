@@ -9,7 +9,7 @@ ghost use Prim.Native.Nat.{ℕ, _≤_, _<_};
 ghost use lib.ListN.{length, getD};
 ghost use Rattle.rules.specs.Ranges.{block, has, count};
 ghost use Rattle.rules.specs.Pages.{pagesOfHint, pagesNamed, pagesUnhinted};
-ghost use Rattle.phases.specs.Code.{unmarked};
+ghost use Rattle.hints.specs.Code.{unmarked};
 
 // The pages that a hint word names are marked: its own and, where the word begins a page, the one before.
 // A word that names none marks page 0, which no one counts.

@@ -1,15 +1,15 @@
--- `phases::unhinted::count_unmarked` meets its contract. The loop's invariant: those counted, with those from page g on, are all. Assumes nothing.
+-- `hints::unhinted::count_unmarked` meets its contract. The loop's invariant: those counted, with those from page g on, are all. Assumes nothing.
 use mathlib.Core.Path.{_≡_, sym, _∙_}
 use mathlib.Core.Logic.{⊎-elim}
 use Prim.Native.Nat.{_≤_, _+_, _-_, _<_}
 use native.Mathlib.Omega.{arith}
-use Rattle.phases.specs.Code.{unmarked}
+use Rattle.hints.specs.Code.{unmarked}
 use Rattle.rules.specs.Ranges.{block, count}
-use Rattle.phases.proofs.Marking.{counted-yes, counted-no, counted-end, unmarked-past}
+use Rattle.hints.proofs.Marking.{counted-yes, counted-no, counted-end, unmarked-past}
 use Rattle.laws.specs.Lists.{past-one}
 use borrow.Author.Needs.{needs}
-use Rattle.phases.proofs.unhinted.count_unmarked.Statement.{statement}
-use Rattle.phases.proofs.unhinted.count_unmarked.Tie as tie
+use Rattle.hints.proofs.unhinted.count_unmarked.Statement.{statement}
+use Rattle.hints.proofs.unhinted.count_unmarked.Tie as tie
 
 abbrev Inv-loop : tie.InvT-loop
 Inv-loop labels marks pages end n₀ g₀ n g = (n < g) × (g ≤ 4096) × (n + count (unmarked labels marks) (block g pages) ≡ count (unmarked labels marks) (block 1 pages))

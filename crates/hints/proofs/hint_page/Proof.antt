@@ -1,13 +1,13 @@
--- `phases::hints::hint_page` meets its contract. Where the page joins, the queue has a place. Assumes nothing.
+-- `hints::hint_page` meets its contract. Where the page joins, the queue has a place. Assumes nothing.
 use mathlib.Core.Path.{_≡_, sym, _∙_}
 use Prim.Native.Nat.{_<_}
 use native.Mathlib.Omega.{arith}
 use lib.ListN.{length}
 use Rattle.rules.specs.Ranges.{at}
-use Rattle.phases.proofs.Joining.{hint-not, hint-joins, hint-fits, queued-joined}
+use Rattle.hints.proofs.Joining.{hint-not, hint-joins, hint-fits, queued-joined}
 use borrow.Author.Needs.{needs}
-use Rattle.phases.proofs.hints.hint_page.Statement.{statement}
-use Rattle.phases.proofs.hints.hint_page.Tie as tie
+use Rattle.hints.proofs.hint_page.Statement.{statement}
+use Rattle.hints.proofs.hint_page.Tie as tie
 
 -- the page has the old label, and there is a place in the queue
 old : (c : tie.Else1) → at (c .before .before .before .before .before .before .args .labels .now) (c .before .before .before .before .before .before .args .page) ≡ c .before .before .before .before .before .before .args .k .old

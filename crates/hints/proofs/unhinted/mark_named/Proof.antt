@@ -1,4 +1,4 @@
--- `phases::unhinted::mark_named` meets its contract. The loop's invariant: marks and the words that are left say of each page what marks and all words said at first. Assumes nothing.
+-- `hints::unhinted::mark_named` meets its contract. The loop's invariant: marks and the words that are left say of each page what marks and all words said at first. Assumes nothing.
 use mathlib.Core.Path.{_≡_, refl, _∙_}
 use mathlib.Core.Bool.{false, _||_}
 use Prim.Native.Nat.{ℕ, _-_, _<_}
@@ -6,10 +6,10 @@ use native.Mathlib.Omega.{arith}
 use lib.ListN.{length, getD, drop}
 use Rattle.rules.specs.Ranges.{has}
 use Rattle.rules.specs.Pages.{pagesNamed}
-use Rattle.phases.proofs.Marking.{marks-end, marks-turn}
+use Rattle.hints.proofs.Marking.{marks-end, marks-turn}
 use borrow.Author.Needs.{needs}
-use Rattle.phases.proofs.unhinted.mark_named.Statement.{statement}
-use Rattle.phases.proofs.unhinted.mark_named.Tie as tie
+use Rattle.hints.proofs.unhinted.mark_named.Statement.{statement}
+use Rattle.hints.proofs.unhinted.mark_named.Tie as tie
 
 abbrev Inv-loop : tie.InvT-loop
 Inv-loop marks₀ hints page pages i₀ marks i = ((g : ℕ) → g < length marks₀ → (getD marks g false || has g (pagesNamed page 1 pages (drop i hints))) ≡ (getD marks₀ g false || has g (pagesNamed page 1 pages hints)))

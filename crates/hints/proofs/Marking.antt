@@ -12,7 +12,7 @@ use lib.Dec.{eqb}
 use borrow.Author.Tests.{eq-eqb, ne-eqb}
 use Rattle.rules.specs.Ranges.{at, block, has, count}
 use Rattle.rules.specs.Pages.{pageNamed, pageNamedBefore, pagesOfHint, pagesNamed, isFree, pagesUnhinted}
-use Rattle.phases.specs.Code.{unmarked}
+use Rattle.hints.specs.Code.{unmarked}
 use Rattle.laws.specs.Lists.{count-past, count-none, count-yes, count-no}
 use Rattle.laws.specs.Pages.{before-same}
 use Rattle.laws.specs.FreePages.{free-past}

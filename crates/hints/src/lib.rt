@@ -1,6 +1,9 @@
 // Step 1: the pages that hint words name stay in place. Each gets the new label and joins the queue, once.
-// There is no copy page yet, so the queue's length is all that the code keeps beside the lent slices.
-use crate::Shape;
+// There is no copy page yet, so the queue's length is all that the code keeps beside the lent slices. And,
+// before the steps, the count of pages that no hint names. These are no calls for users: they are safe only
+// where tests of collect have passed, and their `requires` say so, as in `phases`.
+pub mod unhinted;
+
 use layout::pages;
 use layout::record;
 ghost use mathlib.Core.Path.{_≡_};
@@ -9,7 +12,16 @@ ghost use lib.ListN.{length};
 ghost use Rattle.rules.specs.Pages.{pagesOfHint, pagesNamed};
 ghost use Rattle.rules.specs.Collection.{hintPage, hintPages};
 ghost use Rattle.laws.specs.Safe.{SafeHint, SafeHints};
-ghost use Rattle.phases.specs.Code.{plan, hintedOf, Queued};
+ghost use Rattle.hints.specs.Code.{plan, hintedOf};
+ghost use Rattle.hints.specs.Queue.{Queued};
+
+// What stays the same during a collection: P, T, the old label and the new one.
+pub struct Shape {
+    pub page: u32,
+    pub pages: u32,
+    pub old: u32,
+    pub new: u16,
+}
 
 // The queue's length once `page` is named, 0 for none. Page 0 never has the old label, nor has a page that
 // was named before.

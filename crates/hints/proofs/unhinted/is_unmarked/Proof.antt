@@ -1,10 +1,10 @@
--- `phases::unhinted::is_unmarked` meets its contract. Both halves of the test are looked at in turn. Assumes nothing.
+-- `hints::unhinted::is_unmarked` meets its contract. Both halves of the test are looked at in turn. Assumes nothing.
 use mathlib.Core.Path.{sym, _∙_}
 use borrow.Author.Tests.{eq-eqb, ne-eqb}
 use Rattle.rules.specs.Pages.{isFree}
 use borrow.Author.Needs.{needs}
-use Rattle.phases.proofs.unhinted.is_unmarked.Statement.{statement}
-use Rattle.phases.proofs.unhinted.is_unmarked.Tie as tie
+use Rattle.hints.proofs.unhinted.is_unmarked.Statement.{statement}
+use Rattle.hints.proofs.unhinted.is_unmarked.Tie as tie
 
 element-copy-out-marked : tie.Need-element-copy-out-marked
 element-copy-out-marked c = search needs

@@ -1,12 +1,12 @@
--- `phases::hints::hint_word` meets its contract. Both pages are among the pages; the second joins where the first left off, and where the word does not begin a page it is the first. Assumes nothing.
+-- `hints::hint_word` meets its contract. Both pages are among the pages; the second joins where the first left off, and where the word does not begin a page it is the first. Assumes nothing.
 use mathlib.Core.Path.{sym, _∙_}
 use Prim.Native.Nat.{_<_}
 use native.Mathlib.Omega.{arith}
 use borrow.Author.Tests.{eqb-false, not-true}
-use Rattle.phases.proofs.Joining.{named-within, before-within, word-safe, before-safe, word-once, word-is}
+use Rattle.hints.proofs.Joining.{named-within, before-within, word-safe, before-safe, word-once, word-is}
 use borrow.Author.Needs.{needs}
-use Rattle.phases.proofs.hints.hint_word.Statement.{statement}
-use Rattle.phases.proofs.hints.hint_word.Tie as tie
+use Rattle.hints.proofs.hint_word.Statement.{statement}
+use Rattle.hints.proofs.hint_word.Tie as tie
 
 -- the word's own page is among the pages
 within : (c : tie.After-page-named) → c .page-named .result < c .before .before .before .args .k .pages

@@ -1,13 +1,13 @@
--- `phases::unhinted::mark_word` meets its contract. Assumes nothing.
+-- `hints::unhinted::mark_word` meets its contract. Assumes nothing.
 use mathlib.Core.Path.{sym, _∙_}
 use native.Mathlib.Omega.{arith}
 use lib.ListN.{length-set}
 use borrow.Author.Tests.{eqb-false, not-true}
-use Rattle.phases.proofs.Joining.{named-within, before-within}
-use Rattle.phases.proofs.Marking.{marks-both, marks-once}
+use Rattle.hints.proofs.Joining.{named-within, before-within}
+use Rattle.hints.proofs.Marking.{marks-both, marks-once}
 use borrow.Author.Needs.{needs}
-use Rattle.phases.proofs.unhinted.mark_word.Statement.{statement}
-use Rattle.phases.proofs.unhinted.mark_word.Tie as tie
+use Rattle.hints.proofs.unhinted.mark_word.Statement.{statement}
+use Rattle.hints.proofs.unhinted.mark_word.Tie as tie
 
 page-named-requires : tie.Need-page-named-requires
 page-named-requires c κs = search needs

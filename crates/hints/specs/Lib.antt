@@ -1,0 +1,2 @@
+pub mod Code
+pub mod Queue
