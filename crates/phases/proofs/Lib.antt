@@ -1,5 +1,3 @@
-pub mod Taking
-pub mod Copying
 pub mod Sweeping
 pub mod Freeing
 pub mod Running

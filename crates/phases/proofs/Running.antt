@@ -17,8 +17,9 @@ use Rattle.laws.specs.Safe.{SafeHints, SafeRoots, SafeQueue, SafeRun}
 use Rattle.hints.specs.declared.Shape.{Shape}
 use Rattle.hints.specs.Code.{plan, hintedOf}
 use Rattle.hints.specs.Queue.{Queued, queue-length}
-use Rattle.phases.specs.declared.Gather.{Gather}
-use Rattle.phases.specs.Code.{pagesOf, stateOf, rootedOf, Tied, beginOf, shapeOf, answerOf}
+use Rattle.copies.specs.declared.Gather.{Gather}
+use Rattle.copies.specs.Code.{pagesOf, stateOf, rootedOf, Tied}
+use Rattle.phases.specs.Code.{beginOf, shapeOf, answerOf}
 
 -- the other label is 1 or 2
 pub other-small : (l : ℕ) → otherLabel l ≤ 2

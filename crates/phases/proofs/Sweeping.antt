@@ -17,8 +17,8 @@ use Rattle.laws.specs.Safe.{SafeForward, SafeReferences, SafePage, SafeQueue}
 use Rattle.hints.specs.declared.Shape.{Shape}
 use Rattle.hints.specs.Code.{plan}
 use Rattle.hints.specs.Queue.{Queued, queue-length}
-use Rattle.phases.specs.declared.Gather.{Gather}
-use Rattle.phases.specs.Code.{stateOf, forwardedOf}
+use Rattle.copies.specs.declared.Gather.{Gather}
+use Rattle.copies.specs.Code.{stateOf, forwardedOf}
 
 -- ---- the references of an object, from address w up to `stop`
 

@@ -1,64 +1,24 @@
-// The four steps of a collection: hints, which have a crate of their own, roots, the queue, freeing. These
-// are no calls for users. What `run` and its helpers do is safe only where the tests of collect have
-// passed: their `requires` say so, by the predicates of `laws` (Safe.antt) that follow the definitions
-// step by step. Under it each equals its definition in `rules` (Collection.antt).
-pub mod forward;
+// The four steps of a collection: hints and roots, from crates of their own, the queue, freeing. These are
+// no calls for users. What `run` and its helpers do is safe only where the tests of collect have passed:
+// their `requires` say so, by the predicates of `laws` (Safe.antt) that follow the definitions step by
+// step. Under it each equals its definition in `rules` (Collection.antt).
 pub mod free;
 pub mod sweep;
 
+use copies::Gather;
 use hints::Shape;
 use layout::pages;
 use layout::tables;
 use rules::Collected;
 use rules::Record;
 ghost use mathlib.Core.Path.{_≡_};
-ghost use Prim.Native.Nat.{_+_, _≤_, _<_};
+ghost use Prim.Native.Nat.{_≤_};
 ghost use Rattle.rules.specs.Lent.{lent};
 ghost use Rattle.rules.specs.Collection.{plainly, planOf, collection};
 ghost use Rattle.rules.specs.Collect.{collectOutcome, acceptedCollect};
 ghost use Rattle.laws.specs.Valid.{Layout};
 ghost use Rattle.laws.specs.Safe.{SafeRun};
-ghost use Rattle.phases.specs.Code.{taken, copied, beginOf, shapeOf, answerOf};
-
-// The state of a collection beside the lent slices. The queue is links[0..tail); no page below the cursor
-// is free; copies go to the page `copy`, 0 before the first, at its fill; objects and words were copied.
-pub struct Gather {
-    pub tail: u32,
-    pub cursor: u32,
-    pub copy: u32,
-    pub fill: u32,
-    pub objects: u32,
-    pub words: u32,
-}
-
-impl Gather {
-    // Page g joined the queue, and copies go there from now on.
-    pub fn taken(mut self, g: u32) -> Gather
-        requires { ⌜ (self .tail < 4096) × (g < 4096) ⌝ }
-        ensures { λ r. ⌜ r ≡ taken self g ⌝ }
-    {
-        let tail = self.tail;
-        self.tail = tail + 1;
-        self.cursor = g + 1;
-        self.copy = g;
-        self.fill = 0;
-        self
-    }
-
-    // An object of n words was put at the fill.
-    pub fn copied(mut self, n: u32) -> Gather
-        requires { ⌜ (self .fill + n ≤ 4194304) × (self .objects ≤ 4194304) × (self .words ≤ 4194304) ⌝ }
-        ensures { λ r. ⌜ r ≡ copied self n ⌝ }
-    {
-        let fill = self.fill;
-        let objects = self.objects;
-        let words = self.words;
-        self.fill = fill + n;
-        self.objects = objects + 1;
-        self.words = words + n;
-        self
-    }
-}
+ghost use Rattle.phases.specs.Code.{beginOf, shapeOf, answerOf};
 
 // What a collection of a heap with this record keeps the same.
 pub fn shape_of(r: Record) -> Shape
@@ -119,7 +79,7 @@ pub fn run(
     let k = shape_of(r);
     let hinted = hints::hint_words(labels, links, k, hints);
     let begun = begin(r, hinted);
-    let rooted = forward::forward_roots(heap, labels, links, k, begun, roots);
+    let rooted = copies::forward_roots(heap, labels, links, k, begun, roots);
     let swept = sweep::sweep_queue(heap, labels, links, k, rooted);
     free::free_pages(heap, labels, k);
     tables::clear16(links);

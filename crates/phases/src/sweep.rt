@@ -1,7 +1,6 @@
 // Step 3: each page in the queue in order, each object on it in walk order, each reference in order is
 // forwarded. Hinted pages stand first in the queue, and pages taken meanwhile join it.
-use crate::Gather;
-use crate::forward;
+use copies::Gather;
 use hints::Shape;
 use layout::header;
 ghost use mathlib.Core.Path.{_≡_};
@@ -10,7 +9,7 @@ ghost use lib.ListN.{length};
 ghost use Rattle.rules.specs.Collection.{sweepReferences, sweepPage, sweepQueue};
 ghost use Rattle.laws.specs.Safe.{SafeReferences, SafePage, SafeQueue};
 ghost use Rattle.hints.specs.Code.{plan};
-ghost use Rattle.phases.specs.Code.{stateOf, Tied};
+ghost use Rattle.copies.specs.Code.{stateOf, Tied};
 
 // The references of one object, the words from address `first` up to `stop`.
 pub fn sweep_references(
@@ -32,7 +31,7 @@ pub fn sweep_references(
     let mut w = first;
     while w < stop {
         let value = heap[w];
-        let moved = forward::forward(heap, labels, links, k, g, value);
+        let moved = copies::forward(heap, labels, links, k, g, value);
         heap[w] = moved.value;
         g = moved.gather;
         w += 1;

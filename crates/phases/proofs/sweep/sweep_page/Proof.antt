@@ -10,7 +10,7 @@ use Rattle.rules.specs.Header.{isHeader}
 use Rattle.rules.specs.Collection.{sweepPage}
 use Rattle.laws.specs.Headers.{Header, header-says}
 use Rattle.hints.specs.Code.{plan}
-use Rattle.phases.specs.Code.{stateOf, Tied}
+use Rattle.copies.specs.Code.{stateOf, Tied}
 use Rattle.phases.proofs.Sweeping.{Objects, objects-stop, objects-past, objects-safe, objects-turn, counted, counted-safe}
 use borrow.Author.Needs.{needs}
 use Rattle.phases.proofs.sweep.sweep_page.Statement.{statement}

@@ -6,7 +6,7 @@ use lib.ListN.{length}
 use Rattle.rules.specs.Collection.{sweepQueue}
 use Rattle.laws.specs.Safe.{SafePage}
 use Rattle.hints.specs.Code.{plan}
-use Rattle.phases.specs.Code.{stateOf, Tied}
+use Rattle.copies.specs.Code.{stateOf, Tied}
 use Rattle.phases.proofs.Sweeping.{Queue, queue-end, queue-safe, queue-turn}
 use borrow.Author.Needs.{needs}
 use Rattle.phases.proofs.sweep.sweep_queue.Statement.{statement}

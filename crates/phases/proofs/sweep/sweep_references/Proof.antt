@@ -5,7 +5,7 @@ use native.Mathlib.Omega.{arith}
 use lib.ListN.{length, length-set}
 use Rattle.rules.specs.Collection.{sweepReferences}
 use Rattle.hints.specs.Code.{plan}
-use Rattle.phases.specs.Code.{stateOf, Tied}
+use Rattle.copies.specs.Code.{stateOf, Tied}
 use Rattle.phases.proofs.Sweeping.{References, references-end, references-safe, references-turn, reference-is}
 use borrow.Author.Needs.{needs}
 use Rattle.phases.proofs.sweep.sweep_references.Statement.{statement}

@@ -17,8 +17,8 @@ use Rattle.laws.specs.Safe.{SafeTake}
 use Rattle.hints.specs.declared.Shape.{Shape}
 use Rattle.hints.specs.Code.{plan}
 use Rattle.hints.specs.Queue.{queue-longer, queue-length}
-use Rattle.phases.specs.declared.Gather.{Gather}
-use Rattle.phases.specs.Code.{pagesOf, Tied, taken}
+use Rattle.copies.specs.declared.Gather.{Gather}
+use Rattle.copies.specs.Code.{pagesOf, Tied, taken}
 
 -- ---- the cursor
 

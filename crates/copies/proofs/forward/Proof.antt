@@ -1,11 +1,11 @@
--- `phases::forward::forward` meets its contract. One case for each of its four ends, in the definition's order. Assumes nothing.
+-- `copies::forward` meets its contract. One case for each of its four ends, in the definition's order. Assumes nothing.
 use mathlib.Core.Path.{_∙_}
 use native.Mathlib.Omega.{arith}
-use Rattle.phases.specs.Code.{stateOf}
-use Rattle.phases.proofs.Copying.{forward-nil, forward-stays, forward-copied, forward-copies}
+use Rattle.copies.specs.Code.{stateOf}
+use Rattle.copies.proofs.Copying.{forward-nil, forward-stays, forward-copied, forward-copies}
 use borrow.Author.Needs.{needs}
-use Rattle.phases.proofs.forward.forward.Statement.{statement}
-use Rattle.phases.proofs.forward.forward.Tie as tie
+use Rattle.copies.proofs.forward.Statement.{statement}
+use Rattle.copies.proofs.forward.Tie as tie
 
 returns : tie.Need-returns
 returns c =

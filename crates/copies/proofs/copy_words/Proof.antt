@@ -1,12 +1,12 @@
--- `phases::forward::copy_words` meets its contract. The loop's invariant: the first i words are copied; the part they come from is as it was. Assumes nothing.
-use Rattle.phases.proofs.Copying.{Copying, copying-turn, copying-end}
+-- `copies::copy_words` meets its contract. The loop's invariant: the first i words are copied; the part they come from is as it was. Assumes nothing.
+use Rattle.copies.proofs.Copying.{Copying, copying-turn, copying-end}
 use native.Mathlib.Omega.{arith}
 use Prim.Native.Nat.{_-_}
 use mathlib.Core.Path.{_≡_, refl}
 use lib.ListN.{length, length-set}
 use borrow.Author.Needs.{needs}
-use Rattle.phases.proofs.forward.copy_words.Statement.{statement}
-use Rattle.phases.proofs.forward.copy_words.Tie as tie
+use Rattle.copies.proofs.copy_words.Statement.{statement}
+use Rattle.copies.proofs.copy_words.Tie as tie
 
 abbrev Inv-loop : tie.InvT-loop
 Inv-loop heap₀ x y n i₀ heap i = Copying x y n heap₀ heap i × (length heap ≡ length heap₀)

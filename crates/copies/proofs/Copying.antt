@@ -14,8 +14,8 @@ use Rattle.rules.specs.Collection.{Plan, State, Rooted, withRoom, top, put, cop
 use Rattle.laws.specs.Safe.{SafeCopy, SafeForward, SafeRoots}
 use Rattle.hints.specs.declared.Shape.{Shape}
 use Rattle.hints.specs.Code.{plan}
-use Rattle.phases.specs.declared.Gather.{Gather}
-use Rattle.phases.specs.Code.{pagesOf, stateOf, forwardedOf, rootedOf, Tied, copied}
+use Rattle.copies.specs.declared.Gather.{Gather}
+use Rattle.copies.specs.Code.{pagesOf, stateOf, forwardedOf, rootedOf, Tied, copied}
 
 -- ---- n words from x on to y on, of which i are copied
 

@@ -1,10 +1,10 @@
--- `phases::forward::copy_object` meets its contract. Its copy lies in the heap, apart from it. Assumes nothing.
+-- `copies::copy_object` meets its contract. Its copy lies in the heap, apart from it. Assumes nothing.
 use native.Mathlib.Omega.{arith}
 use lib.ListN.{length}
-use Rattle.phases.proofs.Copying.{Room, copy-is, copy-fits, tied-copied}
+use Rattle.copies.proofs.Copying.{Room, copy-is, copy-fits, tied-copied}
 use borrow.Author.Needs.{needs}
-use Rattle.phases.proofs.forward.copy_object.Statement.{statement}
-use Rattle.phases.proofs.forward.copy_object.Tie as tie
+use Rattle.copies.proofs.copy_object.Statement.{statement}
+use Rattle.copies.proofs.copy_object.Tie as tie
 
 -- what is known of the room for the copy
 room : (c : tie.After-with-room) →

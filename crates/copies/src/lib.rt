@@ -1,5 +1,6 @@
-// Forwarding: pages taken for copies, the copy of an object, one value, and step 2, the roots.
-use crate::Gather;
+// Forwarding: pages taken for copies, the copy of an object, one value, and step 2, the roots. These are no
+// calls for users: they are safe only where the tests of collect have passed, and their `requires` say so,
+// as in `phases`.
 use hints::Shape;
 use layout::header;
 use layout::tables;
@@ -13,7 +14,47 @@ ghost use Rattle.rules.specs.Header.{sizeOf};
 ghost use Rattle.rules.specs.Collection.{takePage, withRoom, copyObject, forward, forwardRoots};
 ghost use Rattle.laws.specs.Safe.{SafeTake, SafeCopy, SafeForward, SafeRoots};
 ghost use Rattle.hints.specs.Code.{plan};
-ghost use Rattle.phases.specs.Code.{pagesOf, stateOf, forwardedOf, rootedOf, Tied};
+ghost use Rattle.copies.specs.Code.{pagesOf, stateOf, forwardedOf, rootedOf, Tied, taken, copied};
+
+// The state of a collection beside the lent slices. The queue is links[0..tail); no page below the cursor
+// is free; copies go to the page `copy`, 0 before the first, at its fill; objects and words were copied.
+pub struct Gather {
+    pub tail: u32,
+    pub cursor: u32,
+    pub copy: u32,
+    pub fill: u32,
+    pub objects: u32,
+    pub words: u32,
+}
+
+impl Gather {
+    // Page g joined the queue, and copies go there from now on.
+    fn taken(mut self, g: u32) -> Gather
+        requires { ⌜ (self .tail < 4096) × (g < 4096) ⌝ }
+        ensures { λ r. ⌜ r ≡ taken self g ⌝ }
+    {
+        let tail = self.tail;
+        self.tail = tail + 1;
+        self.cursor = g + 1;
+        self.copy = g;
+        self.fill = 0;
+        self
+    }
+
+    // An object of n words was put at the fill.
+    fn copied(mut self, n: u32) -> Gather
+        requires { ⌜ (self .fill + n ≤ 4194304) × (self .objects ≤ 4194304) × (self .words ≤ 4194304) ⌝ }
+        ensures { λ r. ⌜ r ≡ copied self n ⌝ }
+    {
+        let fill = self.fill;
+        let objects = self.objects;
+        let words = self.words;
+        self.fill = fill + n;
+        self.objects = objects + 1;
+        self.words = words + n;
+        self
+    }
+}
 
 // What forwarding gives: the value, and the state after it.
 pub struct Moved {
@@ -23,7 +64,7 @@ pub struct Moved {
 
 // The lowest-numbered free page is taken. No page below the cursor is free, so a whole collection looks
 // at each label once.
-pub fn take_page(labels: &mut [u16], links: &mut [u16], k: Shape, g: Gather) -> Gather
+fn take_page(labels: &mut [u16], links: &mut [u16], k: Shape, g: Gather) -> Gather
     requires { ⌜ SafeTake (plan k) (pagesOf (now labels) (now links) g) ⌝ }
     requires { ⌜ Tied k (now labels) (now links) g ⌝ }
     ensures { λ r. ⌜ pagesOf (now (labels .exit)) (now (links .exit)) r ≡ takePage (plan k) (pagesOf (now (labels .entry)) (now (links .entry)) g) ⌝ }
@@ -39,7 +80,7 @@ pub fn take_page(labels: &mut [u16], links: &mut [u16], k: Shape, g: Gather) -> 
 }
 
 // Room for n words on the copy page: this one if they fit, otherwise a page taken.
-pub fn with_room(labels: &mut [u16], links: &mut [u16], k: Shape, g: Gather, n: u32) -> Gather
+fn with_room(labels: &mut [u16], links: &mut [u16], k: Shape, g: Gather, n: u32) -> Gather
     requires { ⌜ g .fill ≤ k .page ⌝ }
     requires { ⌜ (k .page < g .fill + n → SafeTake (plan k) (pagesOf (now labels) (now links) g)) ⌝ }
     requires { ⌜ Tied k (now labels) (now links) g ⌝ }
@@ -54,7 +95,7 @@ pub fn with_room(labels: &mut [u16], links: &mut [u16], k: Shape, g: Gather, n: 
 }
 
 // n words from address x on to address y on. The two parts do not meet, so word by word will do.
-pub fn copy_words(heap: &mut [u32], x: usize, y: usize, n: usize)
+fn copy_words(heap: &mut [u32], x: usize, y: usize, n: usize)
     requires { ⌜ (x + n ≤ length (now heap)) × (y + n ≤ length (now heap)) ⌝ }
     requires { ⌜ (x + n ≤ y) ⊎ (y + n ≤ x) ⌝ }
     ensures { λ _. ⌜ now (heap .exit) ≡ sets (now (heap .entry)) y (take n (drop x (now (heap .entry)))) ⌝ }
@@ -68,7 +109,7 @@ pub fn copy_words(heap: &mut [u32], x: usize, y: usize, n: usize)
 
 // The object at this address, which is still to be copied, is copied whole. An even word, twice the new address, is
 // planted in place of its header before any of its references is looked at.
-pub fn copy_object(
+fn copy_object(
     heap: &mut [u32],
     labels: &mut [u16],
     links: &mut [u16],

@@ -1,15 +1,15 @@
--- `phases::forward::forward_roots` meets its contract. The loop's invariant: the roots done, with what the others give, are what all of them give at first. Assumes nothing.
+-- `copies::forward_roots` meets its contract. The loop's invariant: the roots done, with what the others give, are what all of them give at first. Assumes nothing.
 use mathlib.Core.Path.{_≡_, refl, _∙_}
 use Prim.Native.Nat.{_-_}
 use native.Mathlib.Omega.{arith}
 use lib.ListN.{length, length-set}
 use Rattle.rules.specs.Collection.{forwardRoots}
 use Rattle.hints.specs.Code.{plan}
-use Rattle.phases.specs.Code.{stateOf, Tied}
-use Rattle.phases.proofs.Copying.{Rooting, rooting-end, rooting-safe, rooting-turn}
+use Rattle.copies.specs.Code.{stateOf, Tied}
+use Rattle.copies.proofs.Copying.{Rooting, rooting-end, rooting-safe, rooting-turn}
 use borrow.Author.Needs.{needs}
-use Rattle.phases.proofs.forward.forward_roots.Statement.{statement}
-use Rattle.phases.proofs.forward.forward_roots.Tie as tie
+use Rattle.copies.proofs.forward_roots.Statement.{statement}
+use Rattle.copies.proofs.forward_roots.Tie as tie
 
 abbrev Inv-loop : tie.InvT-loop
 Inv-loop heap₀ labels₀ links₀ k roots₀ g₀ i₀ heap labels links roots g i = (Rooting (plan k) (forwardRoots (plan k) roots₀ (stateOf heap₀ labels₀ links₀ g₀)) roots (stateOf heap labels links g) i × Tied k labels links g)

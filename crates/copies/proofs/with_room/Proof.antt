@@ -1,10 +1,10 @@
--- `phases::forward::with_room` meets its contract. n words fit the copy page, or a page is taken. Assumes nothing.
+-- `copies::with_room` meets its contract. n words fit the copy page, or a page is taken. Assumes nothing.
 use mathlib.Core.Path.{refl, _∙_}
 use native.Mathlib.Omega.{arith}
-use Rattle.phases.proofs.Taking.{room-fits, room-taken}
+use Rattle.copies.proofs.Taking.{room-fits, room-taken}
 use borrow.Author.Needs.{needs}
-use Rattle.phases.proofs.forward.with_room.Statement.{statement}
-use Rattle.phases.proofs.forward.with_room.Tie as tie
+use Rattle.copies.proofs.with_room.Statement.{statement}
+use Rattle.copies.proofs.with_room.Tie as tie
 
 sub-if1 : tie.Need-sub-if1
 sub-if1 c = search needs

@@ -1,12 +1,12 @@
--- `phases::forward::take_page` meets its contract. The first free page from the cursor on is the lowest, and is there. Assumes nothing.
+-- `copies::take_page` meets its contract. The first free page from the cursor on is the lowest, and is there. Assumes nothing.
 use mathlib.Core.Path.{refl}
 use Prim.Native.Nat.{_<_}
 use native.Mathlib.Omega.{arith}
 use lib.ListN.{length}
-use Rattle.phases.proofs.Taking.{take-fits, take-is, take-tied}
+use Rattle.copies.proofs.Taking.{take-fits, take-is, take-tied}
 use borrow.Author.Needs.{needs}
-use Rattle.phases.proofs.forward.take_page.Statement.{statement}
-use Rattle.phases.proofs.forward.take_page.Tie as tie
+use Rattle.copies.proofs.take_page.Statement.{statement}
+use Rattle.copies.proofs.take_page.Tie as tie
 
 -- the page found is there, and so is a place in the queue
 fits : (c : tie.After-lowest-free) →
