@@ -103,7 +103,7 @@ unfolding lookUp
 look-up-says m a =
     rw (look-up-on m a (found m a))
     (by-test Ok (isValid m) _ _ (λ valid.
-    by-found Ok m a (found m a) _ (λ w at z. record { valid = valid-says m valid; object = found-object m a w at .0; is = refl })
+    by-found Ok m a (found m a) _ (λ w here z. record { valid = valid-says m valid; object = found-object m a w here .0; is = refl })
     (λ s e. not-inside m s) (λ z. not-accepted 4 m (omega arith) z)) (λ e z. not-accepted 1 m (omega arith) z))
   where
     Ok : Outcome → Type 0
@@ -129,8 +129,8 @@ pub load-says : (m : Lent) (a i : ℕ) → load m a i .refusal ≡ 0 → LoadOk 
 unfolding load
 load-says m a i =
     by-test Ok (isValid m) _ _ (λ valid.
-    by-found Ok m a (found m a) _ (λ w at.
-    by-test Ok (ltb i (sizeOf w - 1)) _ _ (λ index z. record { word = payload-says m a i w valid at index .0; is = refl })
+    by-found Ok m a (found m a) _ (λ w here.
+    by-test Ok (ltb i (sizeOf w - 1)) _ _ (λ index z. record { word = payload-says m a i w valid here index .0; is = refl })
     (λ e z. not-accepted 5 m (omega arith) z)) (λ s e. not-inside m s) (λ z. not-accepted 4 m (omega arith) z)) (λ e z. not-accepted 1 m (omega arith) z)
   where
     Ok : Outcome → Type 0
@@ -145,10 +145,10 @@ pub store-says : (m : Lent) (a i v : ℕ) → store m a i v .refusal ≡ 0 → S
 unfolding store mayStore
 store-says m a i v =
     by-test Ok (isValid m) _ _ (λ valid.
-    by-found Ok m a (found m a) _ (λ w at.
+    by-found Ok m a (found m a) _ (λ w here.
     by-test Ok (ltb i (sizeOf w - 1)) _ _ (λ index.
     by-test Ok (mayStore m w i v) _ _ (λ may z.
-    let q = payload-says m a i w valid at index in
+    let q = payload-says m a i w valid here index in
     record { word = q .0; value = λ h. value w may (rw (sym (q .1)) at h); is = refl })
     (λ e z. not-accepted 6 m (omega arith) z)) (λ e z. not-accepted 5 m (omega arith) z)) (λ s e. not-inside m s) (λ z. not-accepted 4 m (omega arith) z))
     (λ e z. not-accepted 1 m (omega arith) z)

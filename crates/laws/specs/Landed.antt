@@ -67,6 +67,11 @@ module _ (h : List ℕ) (a : ℕ) where
 abbrev pub Apart : Lent → ℕ → ℕ → Type 0
 Apart m a s = (a < s) ⊎ (s + sizeOf (at (m .heap) s) ≤ a)
 
+-- which no word of the object is
+not-apart : (m : Lent) (a s : ℕ) → s ≤ a → a < s + sizeOf (at (m .heap) s) → Apart m a s → ⊥
+not-apart m a s p q (inl l) = omega arith
+not-apart m a s p q (inr l) = omega arith
+
 -- where a page from 1 on is in use, pages have words
 used-pos : (m : Lent) (a : ℕ) → InUse m (a / m .rec .page) → 0 < m .rec .page
 used-pos m a u = go (ℕ-discrete (m .rec .page) 0)
@@ -127,20 +132,12 @@ module _ (m : Lent) (a : ℕ) where
       go : (f : Found) → found m a ≡ f → f ≡ Inside s
       go (Start w) e = absurd (omega (arith, objects-apart m pos s a (L .object) (found-object m a w e .0) (L .behind), L .before))
       go (Inside t) e = ap Inside (one t (found-inside t e) (decLt s t) (decLt t s))
-      go Nothing e = absurd (out (found-nothing e s (L .object)))
-        where
-          out : Apart m a s → ⊥
-          out (inl l) = omega (arith, L .behind)
-          out (inr l) = omega (arith, L .before)
+      go Nothing e = absurd (not-apart m a s (omega (arith, L .behind)) (L .before) (found-nothing e s (L .object)))
 
   pub nothing-found : ((s : ℕ) → IsObject m s → Apart m a s) → found m a ≡ Nothing
   nothing-found none = go (found m a) refl
     where
-      out : (s : ℕ) → s ≤ a → a < s + sizeOf (at (m .heap) s) → Apart m a s → ⊥
-      out s p q (inl l) = omega arith
-      out s p q (inr l) = omega arith
-
       go : (f : Found) → found m a ≡ f → f ≡ Nothing
-      go (Start w) e = let o = found-object m a w e .0 in absurd (out a (omega arith) (omega (arith, met (m .heap) (page-steps m (a / m .rec .page)) a (o .met) .header .shape)) (none a o))
-      go (Inside s) e = let L = found-inside s e in absurd (out s (omega (arith, L .behind)) (L .before) (none s (L .object)))
+      go (Start w) e = let o = found-object m a w e .0 in absurd (not-apart m a a (omega arith) (omega (arith, met (m .heap) (page-steps m (a / m .rec .page)) a (o .met) .header .shape)) (none a o))
+      go (Inside s) e = let L = found-inside s e in absurd (not-apart m a s (omega (arith, L .behind)) (L .before) (none s (L .object)))
       go Nothing e = refl
