@@ -51,13 +51,13 @@ static void begin(uint32_t page, uint32_t pages)
   made_len = 0;
 }
 
-/* Objects of d payload words, p references, until `used` pages are full: written directly, by neither side. */
-static void fill_pages(uint32_t used, uint32_t d, uint32_t p)
+/* Objects of d payload words, p references, on `used` pages, as many as go into `room` words of each: written directly, by neither side. */
+static void fill_pages(uint32_t used, uint32_t room, uint32_t d, uint32_t p)
 {
   uint32_t which, at;
   for (which = 1; which <= used; which++) {
     labels[which] = 1;
-    for (at = 0; at + d + 1 <= rec.page; at += d + 1) {
+    for (at = 0; at + d + 1 <= room; at += d + 1) {
       made[made_len++] = which * rec.page + at;
       heap[which * rec.page + at] = (d + 1) << 16 | p << 1 | 1;
     }
@@ -91,7 +91,7 @@ static void bench_fits(int calls, uint32_t repeats, uint32_t page, uint32_t d)
 {
   uint32_t i;
   begin(page, 64);
-  fill_pages(3, 0, 0);
+  fill_pages(3, page, 0, 0);
   rec.fill = 1;
   for (i = 0; i < repeats; i++)
     if (calls)
@@ -103,7 +103,7 @@ static void bench_page(int calls, uint32_t repeats, uint32_t page, uint32_t page
 {
   uint32_t i, used = pages / 3 - 2;
   begin(page, pages);
-  fill_pages(used, 0, 0);
+  fill_pages(used, page, 0, 0);
   rec.fill = page;
   for (i = 0; i < repeats; i++) {
     if (calls)
@@ -128,7 +128,7 @@ static void bench_word(const char *what, int calls, uint32_t repeats, uint32_t p
     exit(2);
   }
   begin(page, 64);
-  fill_pages(2, d, 1);
+  fill_pages(2, page, d, 1);
   n = made_len / 2;
   for (i = 0; i < repeats; i++) {
     uint32_t object = made[i % n];
@@ -147,35 +147,39 @@ static void bench_word(const char *what, int calls, uint32_t repeats, uint32_t p
   }
 }
 
-/* A live structure over a third of the pages; `crowded`, over half of them, so that only hints make room. `ends` are arrays, and the hints are
-   words just past a page. */
+/* A live structure over a third of the pages; `crowded`, over half of them, so that only hints make room. `ends` are arrays, and the hints
+   are words just past a page. `remnants` are a list over an eighth of each of three quarters of the pages: there is room for their words, and
+   would be none for full pages. */
 static void build(const char *shape, uint32_t page, uint32_t pages)
 {
   uint32_t i, used = pages / 3 - 1;
   begin(page, pages);
   roots_len = 1;
-  if (strcmp(shape, "list") == 0 || strcmp(shape, "shuffled") == 0) {
-    fill_pages(used, 3, 1);
+  if (strcmp(shape, "list") == 0 || strcmp(shape, "shuffled") == 0 || strcmp(shape, "remnants") == 0) {
+    if (shape[0] == 'r')
+      fill_pages(pages / 4 * 3, page / 8, 3, 1);
+    else
+      fill_pages(used, page, 3, 1);
     if (shape[0] == 's')
       shuffle_made();
     for (i = 0; i + 1 < made_len; i++)
       heap[made[i] + 1] = made[i + 1];
     roots[0] = made[0];
   } else if (strcmp(shape, "tree") == 0) {
-    fill_pages(used, 3, 2);
+    fill_pages(used, page, 3, 2);
     for (i = 1; i < made_len; i++)
       heap[made[(i - 1) / 2] + 1 + (i - 1) % 2] = made[i];
     roots[0] = made[0];
   } else if (strcmp(shape, "arrays") == 0 || strcmp(shape, "ends") == 0) {
-    fill_pages(used, page - 1, 0);
+    fill_pages(used, page, page - 1, 0);
     for (i = 0; i < made_len; i++)
       roots[i] = made[i];
     roots_len = made_len;
   } else if (strcmp(shape, "dead") == 0) {
-    fill_pages(used, 3, 1);
+    fill_pages(used, page, 3, 1);
     roots[0] = made[made_len / 2];
   } else if (strcmp(shape, "crowded") == 0) {
-    fill_pages(pages / 2, 3, 1);
+    fill_pages(pages / 2, page, 3, 1);
     roots[0] = made[made_len / 2];
   } else {
     printf("no such shape\n");
@@ -228,6 +232,8 @@ static const char *const workloads[] = {
   "4 collect list 128 1024 16", "4 collect list 128 1024 8192", "2 collect list 128 4096 8192", "20 collect list 128 64 8192",
   "20 collect ends 128 64 8192", "4 collect ends 128 1024 8192",
   "20 collect crowded 128 64 256", "4 collect crowded 128 1024 8192", "2 collect crowded 128 4096 8192",
+  "20 collect remnants 32 1024 0", "20 collect remnants 128 64 0", "4 collect remnants 128 1024 0", "4 collect remnants 128 1024 256",
+  "2 collect remnants 128 4096 0", "2 collect remnants 1024 1024 0",
 };
 
 static uint32_t number(char **argv, int at) { return (uint32_t)strtoul(argv[at], NULL, 10); }

@@ -1,15 +1,19 @@
-/* plain.c: document 01's rules, with Q-1 and Q-2, as a C programmer would write them by hand for speed, to stand beside the proved library in
-   bench/run: the same tests, the same order of work and the same memory, nothing besides what is lent. Pages are found by a shift, the free page of
-   a collection by a cursor that only moves up, and the queue is the links in order of joining. It answers as the model does:
+/* plain.c: document 01's rules, with Q-1 to Q-3, as a C programmer would write them by hand for speed, to stand beside the proved library
+   in bench/run: the same tests, the same order of work and the same memory, nothing besides what is lent. Pages are found by a shift, the
+   free page of a collection by a cursor that only moves up, and the queue is the links in order of joining. It answers as the model does:
    bench/run checks that before it counts. */
 #include "plain.h"
 
 #include <string.h>
 
+static inline int good_page(uint32_t page)
+{
+  return page >= 8 && page <= 1024 && (page & (page - 1)) == 0;
+}
+
 static inline int good_sizes(size_t heap_len, size_t labels_len, size_t links_len, uint32_t page, uint32_t pages)
 {
-  return page >= 8 && page <= 1024 && (page & (page - 1)) == 0 && pages >= 3 && pages <= 4096 && heap_len == (size_t)page * pages &&
-         labels_len == pages && links_len == pages;
+  return good_page(page) && pages >= 3 && pages <= 4096 && heap_len == (size_t)page * pages && labels_len == pages && links_len == pages;
 }
 
 static inline int good_layout(size_t heap_len, const uint16_t *labels, size_t labels_len, size_t links_len, const fouterpin_record *r)
@@ -260,6 +264,28 @@ static void sweep(collection *c)
   }
 }
 
+/* The pages that so many words may take as copies. */
+static inline uint32_t pages_for(uint32_t words, uint32_t page)
+{
+  return words == 0 ? 0 : 2 * (words / (page + 1)) + 1;
+}
+
+/* The words in objects on pages with this label. */
+static uint32_t words_labelled(const uint32_t *heap, const uint16_t *labels, const fouterpin_record *r, unsigned shift, uint32_t label)
+{
+  uint32_t which, at, end, n, words = 0;
+  for (which = 1; which < r->pages; which++) {
+    if (labels[which] != label)
+      continue;
+    at = which << shift;
+    end = at + r->page;
+    while (at < end && (n = object_words(heap[at], end - at)) != 0)
+      at += n;
+    words += at - (which << shift);
+  }
+  return words;
+}
+
 static fouterpin_collected refused(uint32_t refusal, fouterpin_record r)
 {
   fouterpin_collected a;
@@ -300,7 +326,9 @@ fouterpin_collected plain_collect(uint32_t *heap, size_t heap_len, uint16_t *lab
       hinted++;
     }
   }
-  if (used > hinted && 2 * (used - hinted) - 1 > r.pages - 1 - used) {
+  /* Where there is room for the unhinted pages even if they are full, their words need not be counted. */
+  if (pages_for((used - hinted) << c.shift, r.page) > r.pages - 1 - used &&
+      pages_for(words_labelled(heap, labels, &r, c.shift, old), r.page) > r.pages - 1 - used) {
     for (which = 1; which < r.pages; which++)
       if (labels[which] != 0)
         labels[which] = (uint16_t)old;
@@ -356,7 +384,7 @@ fouterpin_collected plain_collect(uint32_t *heap, size_t heap_len, uint16_t *lab
 uint32_t plain_page_named(uint32_t word, uint32_t page, uint32_t pages)
 {
   uint32_t which;
-  if (page < 8 || page > 1024 || (page & (page - 1)) != 0 || pages < 3 || pages > 4096)
+  if (!good_page(page) || pages < 3 || pages > 4096)
     return 0;
   which = word / page;
   return which < pages ? which : 0;
@@ -367,7 +395,7 @@ uint32_t plain_page_named_before(uint32_t word, uint32_t page, uint32_t pages)
   return word == 0 ? 0 : plain_page_named(word - 1, page, pages);
 }
 
-uint32_t plain_pages_needed(uint32_t unhinted)
+uint32_t plain_pages_needed(uint32_t words, uint32_t page)
 {
-  return unhinted > 4095 ? 4294967295u : unhinted == 0 ? 0 : 2 * unhinted - 1;
+  return good_page(page) ? pages_for(words, page) : 4294967295u;
 }

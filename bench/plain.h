@@ -18,6 +18,6 @@ fouterpin_collected plain_collect(uint32_t *heap, size_t heap_len, uint16_t *lab
                                   fouterpin_record r, uint32_t *roots, size_t roots_len, const uint32_t *hints, size_t hints_len);
 uint32_t plain_page_named(uint32_t word, uint32_t page, uint32_t pages);
 uint32_t plain_page_named_before(uint32_t word, uint32_t page, uint32_t pages);
-uint32_t plain_pages_needed(uint32_t unhinted);
+uint32_t plain_pages_needed(uint32_t words, uint32_t page);
 
 #endif

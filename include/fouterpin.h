@@ -1,6 +1,6 @@
 /* fouterpin.h: the calls of Fouterpin, a mostly-copying collected heap (Bartlett 1988), for C.
 
-   The functions are those of the crate `solver`; each is proved equal to document 01's rules, with Q-1 and Q-2, for every input.
+   The functions are those of the crate `solver`; each is proved equal to document 01's rules, with Q-1 to Q-3, for every input.
    `rt staticlib solver` writes the archive target/staticlib/libsolver.a, for x86-64 Linux. Of C's library it wants memset, memcpy and memmove
    at most, and no other; it allocates nothing, keeps no state between calls and never ends the program. Collect takes some 4.5 KB of stack,
    the others a few hundred bytes. A C program links it as it is:
@@ -54,12 +54,12 @@ enum {
   FOUTERPIN_ACCEPTED = 0,
   FOUTERPIN_LAYOUT = 1,        /* all six: a wrong length, page size, number of pages or record */
   FOUTERPIN_SHAPE = 2,         /* allocate: d is above page - 1, or p above d */
-  FOUTERPIN_COLLECT_FIRST = 3, /* allocate: it does not fit in the open page, and a new page would leave too few free to collect */
+  FOUTERPIN_COLLECT_FIRST = 3, /* allocate: it does not fit in the open page, and with a new one over a third of `pages` would be in use */
   FOUTERPIN_NO_OBJECT = 4,     /* load, store, look_up: nothing is there; the address is neither an object's nor inside one */
   FOUTERPIN_INDEX = 5,         /* load, store: the index is not below d */
   FOUTERPIN_BAD_REFERENCE = 6, /* store: a value for a reference, collect: a root cell, that is neither 0 nor an object's address */
   FOUTERPIN_UNSOUND = 7,       /* collect: the heap is damaged (the whole of it is tested first) */
-  FOUTERPIN_NO_ROOM = 8,       /* collect: the copies might need more pages than are free */
+  FOUTERPIN_NO_ROOM = 8,       /* collect: so many words may have to be copied that the free pages might not do */
   FOUTERPIN_INSIDE = 10        /* load, store, look_up: the address is inside an object, behind its header; the value is its address */
 };
 
@@ -120,8 +120,10 @@ fouterpin_answer fouterpin_store(uint32_t *heap, size_t heap_len, uint16_t *labe
 /* Collects. Every page in use that holds the place of a hint word, or the place before it, stays, with all of its objects; everything
    else that is reached from there or from the root cells is copied together, and every reference and root cell is corrected; all other
    pages are zeroed and freed. A hint may be any word: an address inside an object, or just past its last word, keeps it as well as its
-   own, and a number that is no address does no harm but to keep a page, or two. Refused: 1, 7, 6, 8. After 8, collect with fewer pages in
-   use, or lend a larger heap: more hints may help, since a page that stays needs no room. */
+   own, and a number that is no address does no harm but to keep a page, or two. Refused: 1, 7, 6, 8. It is 8 exactly where
+   fouterpin_pages_needed(W, page) exceeds the number of free pages, page 0 aside; W is the number of words in objects, reached or not, on
+   pages in use that no hint names. After 8, collect with more hints, since the words on a page that stays do not count, or lend a larger
+   heap. */
 fouterpin_collected fouterpin_collect(uint32_t *heap, size_t heap_len, uint16_t *labels, size_t labels_len, uint16_t *links, size_t links_len,
                                       fouterpin_record r, uint32_t *roots, size_t roots_len, const uint32_t *hints, size_t hints_len);
 
@@ -132,9 +134,10 @@ fouterpin_collected fouterpin_collect(uint32_t *heap, size_t heap_len, uint16_t 
 uint32_t fouterpin_page_named(uint32_t word, uint32_t page, uint32_t pages);
 uint32_t fouterpin_page_named_before(uint32_t word, uint32_t page, uint32_t pages);
 
-/* How many free pages a collection may need where no hint names `unhinted` of the pages in use: 0 for 0, else 2 * unhinted - 1; above
-   4,095 it is 4,294,967,295. Refuses nothing. */
-uint32_t fouterpin_pages_needed(uint32_t unhinted);
+/* How many free pages a collection may need if so many words, headers among them, are in objects on pages in use that no hint names: 0
+   for 0, else 2 * (words / (page + 1)) + 1, since two pages of copies in a row hold at least page + 1 words. With `page` 8 it is 1 for 1 to
+   8 words and 3 for 9 to 17. 4,294,967,295 if `page` is bad (0 is bad here). Refuses nothing. */
+uint32_t fouterpin_pages_needed(uint32_t words, uint32_t page);
 
 #ifdef __cplusplus
 }

@@ -3,11 +3,13 @@
 
    clauses       prints nothing but a tally, and each change that was judged otherwise
 
-   Besides, for each word of that collection's heap before, and past it: in which object the word lies (demand3_object_at).
+   Besides, for each word of that collection's heap before, and past it: in which object the word lies (demand3_object_at); and for some
+   hints what there may be to copy, and where to (demand3_room_for).
 
    Not provoked are clauses of demand 3 that follow from those tested before them: that a page in use was hinted or holds a copy (a sound
    page in use has an object, each object has its pair, and none from a hinted page has moved), that no hinted page is freed, that hinted
-   objects do not move (each is first paired with its own address), and that no reference followed is dangling (both heaps are sound).
+   objects do not move (each is first paired with its own address), that no reference followed is dangling (both heaps are sound), and that
+   no page is taken where no word is to be copied (a page taken holds a copy).
 
    The heap: 8 pages of 8 words. Before, page 1 is hinted and holds A at 8 (one reference, to C; data 77) and B at 11 (data 5); page 2
    holds C at 16 (references to D and A; data 9) and D at 20 (a reference to itself); page 3 is open and holds E at 24, dead. Roots are
@@ -124,6 +126,37 @@ static void places(void)
   }
 }
 
+/* What these hints leave to copy: so many pages that no hint names, so many words in objects on them, and four free pages. */
+static void room(uint32_t first, uint32_t second, uint32_t unhinted, uint32_t room_words)
+{
+  demand3_memory b = lend(&before);
+  uint32_t named[2];
+  demand3_room found;
+  named[0] = first;
+  named[1] = second;
+  found = demand3_room_for(&b, named, 2);
+  judged++;
+  if (found.unhinted != unhinted || found.words != room_words || found.free != 4) {
+    printf("clauses: with hints %u and %u, %u pages, %u words and %u free pages were found\n", (unsigned)first, (unsigned)second,
+           (unsigned)found.unhinted, (unsigned)found.words, (unsigned)found.free);
+    wrong++;
+  }
+}
+
+/* Pages 1 to 3 hold 5, 6 and 2 words. A hint takes its page's words away, and those of the page that ends before it. */
+static void rooms(void)
+{
+  room(0, 0, 3, 13);
+  room(7, 40, 3, 13);
+  room(8, 0, 2, 8);
+  room(12, 9, 2, 8);
+  room(16, 0, 1, 2);
+  room(12, 23, 1, 2);
+  room(24, 8, 0, 0);
+  room(32, 0, 2, 11);
+  room(words, 33, 3, 13);
+}
+
 /* Judges the case as it now stands, and makes it anew. */
 static void expect(const char *clause)
 {
@@ -223,32 +256,48 @@ static void pages_and_counts(void)
   after.record[2] = 1, after.labels[1] = after.labels[4] = 1, expect("the label has not changed");
 }
 
-/* One page in use and two taken: before, page 1 holds two objects; after, each has a page. */
-static void more_than_the_bound(void)
+/* Objects of these words on pages 1, 2 and 3, each held by a root; after, each has a page of its own, 4 to 6, but for the first where a
+   hint makes it stay. */
+static void one_a_page(uint32_t first, uint32_t second, uint32_t third, int stays, const char *clause)
 {
+  uint32_t n[3], i;
+  n[0] = first;
+  n[1] = second;
+  n[2] = third;
   memset(&before, 0, sizeof before);
   memset(&after, 0, sizeof after);
-  before.heap[8] = header(0, 0);
-  before.heap[9] = header(0, 0);
-  before.labels[1] = 1;
-  before.roots[0] = 8;
-  before.roots[1] = 9;
-  before.roots_len = after.roots_len = 2;
-  set_record(&before, 1, 1, 2);
-  after.heap[16] = header(0, 0);
-  after.heap[24] = header(0, 0);
-  after.labels[2] = after.labels[3] = 2;
-  after.roots[0] = 16;
-  after.roots[1] = 24;
-  set_record(&after, 2, 3, 1);
-  hints[0] = 0;
-  expect("more pages were taken than the bound");
+  before.roots_len = after.roots_len = 3;
+  for (i = 0; i < 3; i++) {
+    uint32_t to = stays && i == 0 ? 1 : 4 + i;
+    before.heap[(1 + i) * page] = after.heap[to * page] = header(n[i] - 1, 0);
+    before.labels[1 + i] = 1;
+    after.labels[to] = 2;
+    before.roots[i] = (1 + i) * page;
+    after.roots[i] = to * page;
+  }
+  set_record(&before, 1, 3, third);
+  set_record(&after, 2, 6, third);
+  hints[0] = stays ? page : 0;
+  counts[0] = stays ? 1 : 0;
+  counts[1] = counts[2] = 3 - counts[0];
+  counts[3] = first + second + third - (stays ? first : 0);
+  expect(clause);
+}
+
+/* 9 words may take three pages, 8 words one; words on a hinted page are not among them. By pages, three might take five. */
+static void more_than_the_bound(void)
+{
+  one_a_page(3, 3, 3, 0, NULL);
+  one_a_page(2, 3, 3, 0, "more pages were taken than the bound");
+  one_a_page(3, 3, 6, 1, NULL);
+  one_a_page(3, 3, 3, 1, "more pages were taken than the bound");
 }
 
 int main(void)
 {
   make_case();
   places();
+  rooms();
   expect(NULL);
   soundness();
   pairing();

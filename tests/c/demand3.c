@@ -177,16 +177,37 @@ static const char *search_pairs(search *s)
   return NULL;
 }
 
+static demand3_room room_for(const demand3_memory *m, const unsigned char *starts, const unsigned char *hinted)
+{
+  demand3_room room = {0, 0, 0};
+  size_t page, at;
+  for (page = 1; page < m->pages; page++) {
+    room.free += m->labels[page] == 0;
+    room.unhinted += m->labels[page] != 0 && !hinted[page];
+  }
+  for (at = 0; at < m->heap_len; at++)
+    if (starts[at] && !hinted[at / m->page])
+      room.words += m->heap[at] >> 16;
+  return room;
+}
+
+/* Q-3's bound: two copy pages in a row hold at least one word more than a page does, so each two are paid for by so many words, and one
+   more by what is left. */
+static uint32_t most_taken(const search *s)
+{
+  uint32_t words = room_for(s->before, s->starts_before, s->hinted).words;
+  return words == 0 ? 0 : 1 + words / (s->before->page + 1) * 2;
+}
+
 /* Pages in use after, the counts, and what else document 01 says of the state that a collection leaves. */
 static const char *pages_and_counts(const search *s, const uint32_t counts[4])
 {
   const demand3_memory *b = s->before, *a = s->after;
-  uint32_t hinted = 0, unhinted = 0, taken = 0, objects = 0, words = 0;
+  uint32_t hinted = 0, taken = 0, objects = 0, words = 0;
   size_t page, at;
   for (page = 1; page < a->pages; page++) {
     int copies = 0;
     hinted += s->hinted[page];
-    unhinted += b->labels[page] != 0 && !s->hinted[page];
     for (at = page * a->page; at < (page + 1) * a->page; at++)
       if (s->starts_after[at] && !s->hinted[s->preimage[at] / b->page]) {
         copies = 1;
@@ -203,7 +224,7 @@ static const char *pages_and_counts(const search *s, const uint32_t counts[4])
       return "a page that was in use was taken for copies";
     taken += a->labels[page] != 0 && !s->hinted[page];
   }
-  if (taken > (unhinted == 0 ? 0 : 2 * unhinted - 1))
+  if (taken > most_taken(s))
     return "more pages were taken than the bound";
   if (counts[0] != hinted)
     return "the count of pages hinted is wrong";
@@ -224,10 +245,10 @@ static const char *pages_and_counts(const search *s, const uint32_t counts[4])
 }
 
 /* The page of this place is hinted, if it is one in use. */
-static void hold(search *s, size_t place)
+static void hold(const demand3_memory *m, unsigned char *hinted, size_t place)
 {
-  if (place >= s->before->page && place < s->before->heap_len && s->before->labels[place / s->before->page] == s->before->label)
-    s->hinted[place / s->before->page] = 1;
+  if (place >= m->page && place < m->heap_len && m->labels[place / m->page] == m->label)
+    hinted[place / m->page] = 1;
 }
 
 static void *fresh(size_t count, size_t size)
@@ -238,11 +259,32 @@ static void *fresh(size_t count, size_t size)
   return p;
 }
 
+/* hinted[n] is 1 if a hint names page n. The caller frees it. */
+static unsigned char *hinted_pages(const demand3_memory *m, const uint32_t *hints, size_t hints_len)
+{
+  unsigned char *hinted = fresh(m->pages, 1);
+  size_t i;
+  for (i = 0; i < hints_len; i++) {
+    hold(m, hinted, hints[i]);
+    if (hints[i] != 0)
+      hold(m, hinted, (size_t)hints[i] - 1);
+  }
+  return hinted;
+}
+
+demand3_room demand3_room_for(const demand3_memory *before, const uint32_t *hints, size_t hints_len)
+{
+  unsigned char *starts = starts_of(before), *hinted = hinted_pages(before, hints, hints_len);
+  demand3_room room = room_for(before, starts, hinted);
+  free(starts);
+  free(hinted);
+  return room;
+}
+
 const char *demand3_collection(const demand3_memory *before, const demand3_memory *after, const uint32_t *hints, size_t hints_len,
                                const uint32_t counts[4])
 {
   search s;
-  size_t i;
   const char *why = demand3_unsound(before);
   if (why != NULL)
     return "the heap before was not sound";
@@ -255,17 +297,12 @@ const char *demand3_collection(const demand3_memory *before, const demand3_memor
   s.after = after;
   s.starts_before = starts_of(before);
   s.starts_after = starts_of(after);
-  s.hinted = fresh(before->pages, 1);
+  s.hinted = hinted_pages(before, hints, hints_len);
   s.image = fresh(before->heap_len, sizeof *s.image);
   s.preimage = fresh(before->heap_len, sizeof *s.preimage);
   s.list = fresh(before->heap_len, sizeof *s.list);
   s.listed = 0;
   s.followed = 0;
-  for (i = 0; i < hints_len; i++) {
-    hold(&s, hints[i]);
-    if (hints[i] != 0)
-      hold(&s, (size_t)hints[i] - 1);
-  }
   why = search_pairs(&s);
   if (why == NULL)
     why = pages_and_counts(&s, counts);

@@ -24,6 +24,14 @@ const char *demand3_unsound(const demand3_memory *m);
 /* The start of the object that the word at `address` is a part of, header or payload; 0 if there is none. */
 uint32_t demand3_object_at(const demand3_memory *m, uint32_t address);
 
+/* What a collection with these hints may have to copy, and where to: the pages in use that no hint names, the words in objects on them, and
+   the free pages. The heap is sound. */
+typedef struct {
+  uint32_t unhinted, words, free;
+} demand3_room;
+
+demand3_room demand3_room_for(const demand3_memory *before, const uint32_t *hints, size_t hints_len);
+
 /* NULL if an accepted collection that made `after` of `before` is as demand 3 has it, else the clause that fails. The four counts are
    hinted, taken, objects, words, as the collection answered them. */
 const char *demand3_collection(const demand3_memory *before, const demand3_memory *after, const uint32_t *hints, size_t hints_len,

@@ -9,8 +9,8 @@
 
    driver [-3] [-t] < script
      -3  demand 3: after each accepted collection its pairing is searched for (demand3.c), and a heap that was sound must be sound
-         after any call, and after an accepted start
-     -t  prints on standard error at the end how often each call gave each refusal
+         after any call, and after an accepted start; a collection is refused for room exactly where the call for pages needed says so
+     -t  prints on standard error at the end how often each call gave each refusal, and with -3 how near to its edge refusal 8 was tried
    Exit status 0; 1 where a check failed, after a line on standard error; 2 for a script that is none; 3 where a call touched memory that
    it was not lent, or wrote what it may only read. */
 #define _POSIX_C_SOURCE 200809L
@@ -47,7 +47,7 @@ typedef fouterpin_collected collected;
 /* How often each call gave each refusal: those of include/fouterpin.h, and any other. */
 enum { starts, allocs, loads, stores, looks, collects, pages_asked, befores_asked, needs_asked, calls };
 static const char *const call_names[calls] = {"start", "alloc", "load", "store", "look", "collect", "page", "before", "need"};
-enum { layout = 1, nothing_there = 4, inside = 10, columns = 11 };
+enum { layout = 1, nothing_there = 4, no_room = 8, inside = 10, columns = 11 };
 static uint64_t given[calls][columns];
 
 static void counted(int call, uint32_t refusal)
@@ -313,6 +313,32 @@ static void run_plain(int call, const uint32_t *n)
   print_answer(rec);
 }
 
+/* Collections that were accepted or refused 8, by the pages that they may need and those that are free: by how many the first exceed the
+   second; whether one word more would be refused, or one less accepted; and how many were accepted by words that would not be by pages. */
+enum { fewer, as_many, one_more, more, no_word_more, a_word_too_many, by_words_alone, edges };
+static const char *const edge_names[edges] = {"fewer-than-free", "as-many-as-free", "one-more-than-free", "more-than-free",
+                                              "no-word-more",    "a-word-too-many", "by-words-alone"};
+static uint64_t near_edge[edges];
+
+/* Q-3: "8 is given exactly when the new figure exceeds N - k", by the call for that figure and by the words that are found in memory; and
+   the figure "never exceeds the old" one. */
+static void check_room(uint32_t refusal)
+{
+  demand3_memory before = memory_before(rec);
+  demand3_room room = demand3_room_for(&before, words(hints), count(hints));
+  uint32_t needed = CALL(pages_needed)(room.words, rec.page), by_pages = room.unhinted == 0 ? 0 : 2 * room.unhinted - 1;
+  if (needed > by_pages)
+    fail("more pages are said to be needed than by the count of pages");
+  if (needed > room.free && refusal != no_room)
+    fail("a collection was accepted that may need more pages than are free");
+  if (needed <= room.free && refusal == no_room)
+    fail("a collection was refused for room that needs no more pages than are free");
+  near_edge[needed < room.free ? fewer : needed == room.free ? as_many : needed == room.free + 1 ? one_more : more]++;
+  near_edge[no_word_more] += refusal == 0 && CALL(pages_needed)(room.words + 1, rec.page) > room.free;
+  near_edge[a_word_too_many] += refusal != 0 && CALL(pages_needed)(room.words - 1, rec.page) <= room.free;
+  near_edge[by_words_alone] += refusal == 0 && by_pages > room.free;
+}
+
 static void run_collect(void)
 {
   collected c;
@@ -320,6 +346,8 @@ static void run_collect(void)
   c = CALL(collect)(words(heap), count(heap), halves(labels), count(labels), halves(links), count(links), rec, words(roots), count(roots),
                     words(hints), count(hints));
   after_call(collects, c.refusal, c.hinted == 0 && c.taken == 0 && c.objects == 0 && c.words == 0, c.record);
+  if (demand_3 && sound_before && (c.refusal == 0 || c.refusal == no_room))
+    check_room(c.refusal);
   if (demand_3 && c.refusal == 0) {
     demand3_memory b = memory_before(rec), a = memory_now(c.record);
     uint32_t counts[4];
@@ -464,7 +492,7 @@ static int run_line(char *text)
   }
   if (strcmp(name, "need") == 0) {
     counted(needs_asked, 0);
-    printf("need %" PRIu32 "\n", CALL(pages_needed)(numbers[0]));
+    printf("need %" PRIu32 "\n", CALL(pages_needed)(numbers[0], numbers[1]));
     return 1;
   }
   if (strcmp(name, "dump") == 0)
@@ -477,7 +505,7 @@ static int run_line(char *text)
 
 static void print_table(void)
 {
-  int call, column;
+  int call, column, edge;
   fprintf(stderr, "table refusal 0 1 2 3 4 5 6 7 8 10 other\n");
   for (call = 0; call < calls; call++) {
     fprintf(stderr, "table %s", call_names[call]);
@@ -486,6 +514,8 @@ static void print_table(void)
     fprintf(stderr, "\n");
   }
   fprintf(stderr, "table collections-searched %" PRIu64 "\ntable sound-after %" PRIu64 "\n", checked_collections, checked_calls);
+  for (edge = 0; edge < edges; edge++)
+    fprintf(stderr, "table %s %" PRIu64 "\n", edge_names[edge], near_edge[edge]);
 }
 
 int main(int argc, char **argv)

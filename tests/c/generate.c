@@ -2,10 +2,10 @@
 
    generate SEED CALLS > script      at least CALLS calls; the same seed gives the same script on every machine
 
-   Episodes of five kinds, in turn by chance: honest runs from a fresh start; sound heaps built directly; the same with aimed damage to a
-   header, a tail, a label, the record, a reference or a length; memory that is junk under a record that is not; and the calls on
-   numbers. The generator keeps the state itself, by the model, so that it knows addresses to aim at; what the answers are is none of its
-   business. Sizes are weighted to small, where every edge is near. */
+   Episodes of six kinds, in turn by chance: honest runs from a fresh start; sound heaps built directly; sound heaps of small remnants, with
+   about as many words as there is room for; sound heaps with aimed damage to a header, a tail, a label, the record, a reference or a
+   length; memory that is junk under a record that is not; and the calls on numbers. The generator keeps the state itself, by the model, so
+   that it knows addresses to aim at; what the answers are is none of its business. Sizes are weighted to small, where every edge is near. */
 #include "model.h"
 
 #include <inttypes.h>
@@ -323,6 +323,18 @@ static void some_store(uint32_t percent_good)
   do_store(address, index, index < refs ? a_reference(percent_good) : a_number());
 }
 
+/* Every object is held by a root, in any order, if there are not too many. */
+static void hold_everything(void)
+{
+  if (objects_len < 1000)
+    for (roots_len = 0; roots_len < objects_len; roots_len++) {
+      uint32_t swap = below((uint32_t)roots_len + 1);
+      roots[roots_len] = objects[roots_len];
+      roots[roots_len] = roots[swap];
+      roots[swap] = objects[roots_len];
+    }
+}
+
 /* Roots and hints: few or many. */
 static void choose_roots(uint32_t percent_good)
 {
@@ -330,13 +342,8 @@ static void choose_roots(uint32_t percent_good)
   roots_len = chance(10) ? 0 : chance(15) ? below(60) : below(7);
   for (i = 0; i < roots_len; i++)
     roots[i] = chance(20) ? 0 : i > 0 && chance(15) ? roots[below(i)] : an_object();
-  if (chance(8) && objects_len < 1000) /* everything, in any order */
-    for (roots_len = 0; roots_len < objects_len; roots_len++) {
-      uint32_t swap = below((uint32_t)roots_len + 1);
-      roots[roots_len] = objects[roots_len];
-      roots[roots_len] = roots[swap];
-      roots[swap] = objects[roots_len];
-    }
+  if (chance(8))
+    hold_everything();
   if (bad) {
     i = roots_len == 0 ? (uint32_t)roots_len++ : below((uint32_t)roots_len);
     roots[i] = near_word();
@@ -469,9 +476,10 @@ static void honest(void)
    page, which copies may pack much worse. */
 static int tight;
 
-static void build_page(uint32_t which)
+/* Objects of so many words together, at least one. */
+static void fill_page(uint32_t which, uint32_t words)
 {
-  uint32_t at = which * rec.page, end = at + rec.page, stop = tight || chance(40) ? end : at + 1 + below(rec.page), n;
+  uint32_t at = which * rec.page, stop = at + words, n;
   do {
     uint32_t room = stop - at;
     n = chance(10) ? room : 1 + below(chance(70) ? 6 : rec.page);
@@ -483,13 +491,37 @@ static void build_page(uint32_t which)
     at += n;
   } while (at < stop);
   if (which == rec.opened)
-    rec.fill = at - which * rec.page;
+    rec.fill = words;
+}
+
+static void build_page(uint32_t which)
+{
+  fill_page(which, tight || chance(40) ? rec.page : 1 + below(rec.page));
+}
+
+static void open_a_page(void)
+{
+  rec.opened = 1 + below(true_pages - 1);
+  if (labels[rec.opened] == 0)
+    rec.opened = 0;
+}
+
+/* Payload for objects whose headers stand already; of the references so many percent are nil. */
+static void fill_objects(uint32_t nil)
+{
+  uint32_t i;
+  size_t o;
+  list_objects();
+  for (o = 0; o < objects_len; o++) {
+    uint32_t at = objects[o], header = heap[at];
+    for (i = 1; i < header >> 16; i++)
+      heap[at + i] = i > (header & 0xffff) / 2 ? a_number() : chance(nil) ? 0 : chance(10) ? at : an_object();
+  }
 }
 
 static void built(void)
 {
   uint32_t page, pages, used, i, k, mode = below(10), nil = chance(30) ? 35 : chance(50) ? 3 : chance(50) ? 95 : 100;
-  size_t o;
   choose_size(&page, &pages);
   size_memory(page, pages);
   rec.label = 1 + below(2);
@@ -499,18 +531,11 @@ static void built(void)
     k = tight ? 1 + i : 1 + below(pages - 1);
     labels[k] = (uint16_t)rec.label;
   }
-  rec.opened = 1 + below(pages - 1);
-  if (labels[rec.opened] == 0)
-    rec.opened = 0;
+  open_a_page();
   for (i = 1; i < pages; i++)
     if (labels[i] != 0)
       build_page(i);
-  list_objects();
-  for (o = 0; o < objects_len; o++) {
-    uint32_t at = objects[o], header = heap[at];
-    for (i = 1; i < header >> 16; i++)
-      heap[at + i] = i > (header & 0xffff) / 2 ? a_number() : chance(nil) ? 0 : chance(10) ? at : an_object();
-  }
+  fill_objects(nil);
   if (chance(70))
     junk_links();
 }
@@ -538,6 +563,89 @@ static void built_run(void)
   some_collect(88);
   for (i = 0; i < steps; i++)
     some_call(85);
+}
+
+/* A hint that names a page by a word of its own, or by the word past its end. */
+static uint32_t a_hint_for(uint32_t which)
+{
+  return which * rec.page + (chance(40) ? rec.page : below(rec.page));
+}
+
+static int is_hinted(uint32_t which)
+{
+  size_t i;
+  for (i = 0; i < hints_len; i++)
+    if (hints[i] / rec.page == which || (hints[i] > 0 && (hints[i] - 1) / rec.page == which))
+      return 1;
+  return 0;
+}
+
+/* Hints for no page, for a few, or for every one. */
+static void choose_held(void)
+{
+  uint32_t few = chance(45) ? 0 : chance(80) ? 1 + below(3) : true_pages - 1, i;
+  for (hints_len = 0; hints_len < few; hints_len++) {
+    i = few == true_pages - 1 ? 1 + (uint32_t)hints_len : 1 + below(true_pages - 1);
+    hints[hints_len] = a_hint_for(i);
+  }
+}
+
+/* So many words for so many pages: each gets one at least and P at most, and together they come as near to `sum` as they can. */
+static void share_words(uint32_t *words, uint32_t pages, uint32_t sum)
+{
+  uint32_t i, some, left = sum < pages ? 0 : sum > pages * rec.page ? pages * (rec.page - 1) : sum - pages;
+  for (i = 0; i < pages; i++)
+    words[i] = 1;
+  while (left > 0) {
+    i = below(pages);
+    some = below(rec.page - words[i] + 1);
+    if (some > left)
+      some = left;
+    words[i] += some;
+    left -= some;
+  }
+}
+
+/* Many pages in use and few free ones: the words on pages that no hint names are mostly just as many as Q-3 has room for, or one more.
+   With f free pages, too many are (P + 1) * ceil(f / 2), and 1 where f is 0. */
+static void remnants_run(void)
+{
+  static uint32_t words[most_pages], unhinted[most_pages];
+  uint32_t page = chance(50) ? 8 : chance(60) ? 16 : chance(80) ? 64 : 1024, pages = 3 + below(chance(70) ? 12 : 45);
+  uint32_t free_pages, too_many, i, n = 0, steps = below(4);
+  size_memory(page, pages);
+  rec.label = 1 + below(2);
+  free_pages = chance(8) ? 0 : 1 + below(chance(80) && pages > 6 ? 5 : pages - 1);
+  for (i = 1; i < pages; i++)
+    labels[i] = (uint16_t)rec.label;
+  for (i = 0; i < free_pages;) {
+    uint32_t which = 1 + below(pages - 1);
+    i += labels[which] != 0;
+    labels[which] = 0;
+  }
+  open_a_page();
+  choose_held();
+  tight = chance(30);
+  for (i = 1; i < pages; i++)
+    if (labels[i] != 0 && is_hinted(i))
+      build_page(i);
+    else if (labels[i] != 0)
+      unhinted[n++] = i;
+  too_many = free_pages == 0 ? 1 : (page + 1) * ((free_pages + 1) / 2);
+  share_words(words, n, chance(85) ? too_many - 1 + below(2) : below(n * page));
+  for (i = 0; i < n; i++)
+    fill_page(unhinted[i], words[i]);
+  fill_objects(chance(50) ? 30 : 90);
+  print_state();
+  choose_roots(95);
+  if (chance(50))
+    hold_everything();
+  if (do_collect() == 8 && n > 0) { /* one page more that stays */
+    hints[hints_len++] = a_hint_for(unhinted[below(n)]);
+    do_collect();
+  }
+  for (i = 0; i < steps; i++)
+    some_call(90);
 }
 
 /* Aimed damage. */
@@ -733,6 +841,27 @@ static void junk_run(void)
     some_call(85);
 }
 
+/* Words near where the pages needed change: none and one, P and P + 1, a multiple of P + 1 and its neighbours, the largest; or any. */
+static uint32_t words_to_ask(uint32_t page)
+{
+  uint32_t multiple = (page + 1) * below(chance(50) ? 9 : 4096);
+  switch (below(7)) {
+  case 0: return below(2);
+  case 1: return page + below(2);
+  case 2: return 4294967295u - below(page + 2);
+  case 3: return any_word();
+  default: return multiple - 1 + below(3);
+  }
+}
+
+static uint32_t page_to_ask(void)
+{
+  static const uint32_t bad[] = {0, 0, 1, 4, 7, 9, 12, 1023, 1025, 2048, 4294967295u};
+  if (chance(70))
+    return (uint32_t)8 << below(8);
+  return chance(60) ? bad[below(11)] : chance(50) ? below(2100) : any_word();
+}
+
 static void numbers_run(void)
 {
   uint32_t i, page, pages, word;
@@ -749,10 +878,11 @@ static void numbers_run(void)
     printf("page %" PRIu32 " %" PRIu32 " %" PRIu32 "\n", word, page, pages);
     printf("before %" PRIu32 " %" PRIu32 " %" PRIu32 "\n", word, page, pages);
   }
-  printf("need %" PRIu32 "\n", below(5));
-  printf("need %" PRIu32 "\n", 4094 + below(4));
-  printf("need %" PRIu32 "\n", any_word());
-  calls_made += 15;
+  for (i = 0; i < 6; i++) {
+    page = page_to_ask();
+    printf("need %" PRIu32 " %" PRIu32 "\n", words_to_ask(page), page);
+  }
+  calls_made += 18;
 }
 
 int main(int argc, char **argv)
@@ -767,8 +897,10 @@ int main(int argc, char **argv)
     uint32_t r = below(100);
     if (r < 6)
       honest();
-    else if (r < 46)
+    else if (r < 36)
       built_run();
+    else if (r < 52)
+      remnants_run();
     else if (r < 92)
       damaged_run();
     else if (r < 97)

@@ -1,4 +1,4 @@
-/* model.c: document 01's calls as a model in C, with requests Q-1 and Q-2 of document 02, written from the two alone, in their words and
+/* model.c: document 01's calls as a model in C, with requests Q-1 to Q-3 of document 02, written from the two alone, in their words and
    order, plain rather than fast. Nothing here was taken from the Rattle code; the tests compare the two. It assumes nothing of what it is
    lent beyond true lengths.
    tests/c/mutants plants errors in this file by exact lines: a line changed here is changed there. */
@@ -324,22 +324,42 @@ static int names(const world *w, uint32_t hint, uint32_t page)
   return hint >= 1 && page_of_word(w, hint - 1) == page;
 }
 
-/* k': pages in use "that no hint names". */
-static uint32_t pages_unhinted(const world *w, const uint32_t *hints, size_t hints_len)
+static int is_hinted(const world *w, const uint32_t *hints, size_t hints_len, uint32_t page)
 {
-  uint32_t page, count = 0;
   size_t i;
-  for (page = 1; page < w->r.pages; page++) {
-    int named = 0;
-    if (w->labels[page] == 0)
-      continue;
-    for (i = 0; i < hints_len; i++)
-      if (names(w, hints[i], page))
-        named = 1;
-    if (!named)
-      count = count + 1;
+  for (i = 0; i < hints_len; i++)
+    if (names(w, hints[i], page))
+      return 1;
+  return 0;
+}
+
+/* An object's words are its n, the header among them. */
+static uint32_t words_in_objects(const world *w, uint32_t page)
+{
+  uint32_t at = page * w->r.page, words = 0;
+  while (at < (page + 1) * w->r.page && is_header(w->heap, w->r, at)) {
+    words = words + size_of(w->heap[at]);
+    at = at + size_of(w->heap[at]);
   }
-  return count;
+  return words;
+}
+
+/* "Let W be the words in objects on unhinted pages in use." */
+static uint32_t words_unhinted(const world *w, const uint32_t *hints, size_t hints_len)
+{
+  uint32_t page, words = 0;
+  for (page = 1; page < w->r.pages; page++)
+    if (w->labels[page] != 0 && !is_hinted(w, hints, hints_len, page))
+      words = words + words_in_objects(w, page);
+  return words;
+}
+
+/* "a collection takes at most 2*floor(W / (P + 1)) + 1 pages if W is at least 1, else none". */
+static uint32_t most_pages_taken(uint32_t words, uint32_t page)
+{
+  if (words == 0)
+    return 0;
+  return 2 * (words / (page + 1)) + 1;
 }
 
 /* "Copied whole: at the copy page's fill if it fits, otherwise at the start of the lowest-numbered free page." */
@@ -461,7 +481,7 @@ model_collected model_collect(uint32_t *heap, size_t heap_len, uint16_t *labels,
                               model_record r, uint32_t *roots, size_t roots_len, const uint32_t *hints, size_t hints_len)
 {
   world w;
-  uint32_t k, unhinted;
+  uint32_t k, words;
   size_t i;
   if (!good_layout(heap_len, labels, labels_len, links_len, r))
     return collected(layout, NULL, r);
@@ -483,8 +503,8 @@ model_collected model_collect(uint32_t *heap, size_t heap_len, uint16_t *labels,
   w.objects = 0;
   w.words = 0;
   k = pages_in_use(labels, r);
-  unhinted = pages_unhinted(&w, hints, hints_len);
-  if (unhinted >= 1 && 2 * unhinted - 1 > r.pages - 1 - k)
+  words = words_unhinted(&w, hints, hints_len);
+  if (most_pages_taken(words, r.page) > r.pages - 1 - k)
     return collected(no_room, NULL, r);
   read_hints(&w, hints, hints_len);
   forward_roots(&w, roots, roots_len);
@@ -511,12 +531,10 @@ uint32_t model_page_named_before(uint32_t word, uint32_t page, uint32_t pages)
   return model_page_named(word - 1, page, pages);
 }
 
-/* "How many pages a collection may need." */
-uint32_t model_pages_needed(uint32_t unhinted)
+/* "How many pages a collection may need." Q-3: it "takes W and P instead; a bad P gives 4,294,967,295". */
+uint32_t model_pages_needed(uint32_t words, uint32_t page)
 {
-  if (unhinted > 4095)
+  if (!good_page(page))
     return 4294967295u;
-  if (unhinted == 0)
-    return 0;
-  return 2 * unhinted - 1;
+  return most_pages_taken(words, page);
 }

@@ -29,18 +29,19 @@ fn are_roots_good(heap: &[u32], labels: &[u16], r: Record, roots: &[u32]) -> boo
     true
 }
 
-// As many pages are free as a collection may take. No more pages are unhinted than are in use: where there is room for these,
-// no hint is looked at. Otherwise the count of unhinted pages is linear in hints and pages.
+// As many pages are free as a collection may take. No more words are on unhinted pages than all pages in use have: where there is
+// room for as many, no hint is looked at and no page is walked. Otherwise the count of words is linear in hints and words.
 fn has_room(heap: &[u32], labels: &[u16], links: &[u16], r: Record, hints: &[u32]) -> bool
     requires { ⌜ isValid (lent (now heap) (now labels) (now links) r) ≡ true ⌝ }
     ensures { λ x. ⌜ x ≡ hasRoom (lent (now (heap .entry)) (now (labels .entry)) (now (links .entry)) r) (now (hints .entry)) ⌝ }
 {
     let used = tables::pages_used(labels, 1, r.pages);
     let free = r.pages - 1 - used;
-    if pages::pages_needed(used) <= free {
+    if pages::pages_needed(used * r.page, r.page) <= free {
         return true;
     }
-    let needed = pages::pages_needed(unhinted::pages_unhinted(labels, hints, r.page, r.pages));
+    let words = unhinted::words_unhinted(heap, labels, r, hints);
+    let needed = pages::pages_needed(words, r.page);
     needed <= free
 }
 

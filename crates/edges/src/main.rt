@@ -1,4 +1,4 @@
-// Document 01's edges and those of Q-1 and Q-2, run on the code: a line for each, what was asked and what it answers. Its stdout is
+// Document 01's edges and those of Q-1 to Q-3, run on the code: a line for each, what was asked and what it answers. Its stdout is
 // what the papers say. The starred ones are also one table under one theorem (rules/specs/Edges.antt).
 mod calls;
 
@@ -40,27 +40,17 @@ fn befores() {
     before(b"* page named by the word before 0: ", 0);
 }
 
+fn need(asked: &[u8], words: u32, page: u32) {
+    line(asked, solver::fouterpin_pages_needed(words, page) as u64);
+}
+
 fn needed() {
-    line(
-        b"* pages needed for k' 0: ",
-        solver::fouterpin_pages_needed(0) as u64,
-    );
-    line(
-        b"* pages needed for k' 1: ",
-        solver::fouterpin_pages_needed(1) as u64,
-    );
-    line(
-        b"* pages needed for k' 2: ",
-        solver::fouterpin_pages_needed(2) as u64,
-    );
-    line(
-        b"pages needed for k' 4095: ",
-        solver::fouterpin_pages_needed(4095) as u64,
-    );
-    line(
-        b"pages needed for k' 4096: ",
-        solver::fouterpin_pages_needed(4096) as u64,
-    );
+    need(b"* pages needed for W 0 with P 8: ", 0, 8);
+    need(b"* pages needed for W 8: ", 8, 8);
+    need(b"* pages needed for W 9: ", 9, 8);
+    need(b"pages needed for W 4294967295: ", 4294967295, 8);
+    need(b"* pages needed for W 0 with P 0: ", 0, 0);
+    need(b"* pages needed for W 9 with P 12: ", 9, 12);
 }
 
 fn main() {

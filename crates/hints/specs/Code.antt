@@ -1,10 +1,13 @@
 -- What the code holds while the hints are read, as pages of the definitions: from the lent slices and the code's counter to
--- `Pages`. And, before that, what a page without a mark is.
-use mathlib.Core.Bool.{Bool, false, not, _&&_}
+-- `Pages`. And, before that, what a page without a mark is, and
+-- what it counts.
+use mathlib.Core.Bool.{Bool, false, cond, not, _&&_}
 use mathlib.Core.List.{List}
 use Prim.Native.Nat.{ℕ}
 use lib.ListN.{getD, take}
 use Rattle.rules.specs.Pages.{isFree}
+use Rattle.rules.specs.Lent.{Lent}
+use Rattle.rules.specs.Walk.{wordsOn}
 use Rattle.rules.specs.Collection.{Plan, Pages, plainly}
 use Rattle.hints.specs.declared.Shape.{Shape}
 
@@ -20,3 +23,7 @@ hintedOf k labels links n = record { labels = labels; queue = take n links; copy
 -- page g is in use and has no mark
 abbrev pub unmarked : List ℕ → List Bool → ℕ → Bool
 unmarked labels marks g = not (isFree labels g) && not (getD marks g false)
+
+-- what page g counts: the words in its objects, where it has no mark
+abbrev pub wordsUnmarked : Lent → List Bool → ℕ → ℕ
+wordsUnmarked m marks g = cond (unmarked (m .labels) marks g) (wordsOn m g) 0

@@ -1,6 +1,6 @@
 // Step 1: the pages that hint words name stay in place. Each gets the new label and joins the queue, once.
 // There is no copy page yet, so the queue's length is all that the code keeps beside the lent slices. And,
-// before the steps, the count of pages that no hint names. These are no calls for users: they are safe only
+// before the steps, the words on pages that no hint names. These are no calls for users: they are safe only
 // where tests of collect have passed, and their `requires` say so, as in `phases`.
 pub mod unhinted;
 

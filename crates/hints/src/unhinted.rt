@@ -1,15 +1,21 @@
-// The pages in use that no hint names: k' of refusal 8. This is no step but a test before them. Marking
-// the named pages first keeps the work linear in hints and pages.
+// The words in objects on pages in use that no hint names: W of refusal 8. This is no step but a test before
+// them. Marking the named pages first keeps the work linear in hints and words.
+use layout::header;
 use layout::pages;
 use layout::record;
 use layout::tables;
+use rules::Record;
 ghost use mathlib.Core.Path.{_≡_};
 ghost use mathlib.Core.Bool.{false, _||_};
+ghost use mathlib.Core.List.{List};
 ghost use Prim.Native.Nat.{ℕ, _≤_, _<_};
 ghost use lib.ListN.{length, getD};
-ghost use Rattle.rules.specs.Ranges.{block, has, count};
-ghost use Rattle.rules.specs.Pages.{pagesOfHint, pagesNamed, pagesUnhinted};
-ghost use Rattle.hints.specs.Code.{unmarked};
+ghost use Rattle.rules.specs.Ranges.{block, has, sum};
+ghost use Rattle.rules.specs.Pages.{pagesOfHint, pagesNamed};
+ghost use Rattle.rules.specs.Lent.{lent};
+ghost use Rattle.rules.specs.Walk.{wordsOn};
+ghost use Rattle.rules.specs.Collect.{wordsUnhinted};
+ghost use Rattle.hints.specs.Code.{unmarked, wordsUnmarked};
 
 // The pages that a hint word names are marked: its own and, where the word begins a page, the one before.
 // A word that names none marks page 0, which no one counts.
@@ -39,41 +45,63 @@ fn mark_named(marks: &mut [bool; 4096], hints: &[u32], page: u32, pages: u32)
     }
 }
 
-// Page g is in use and not marked. The mark is read in any case, so that counting needs no branch.
+// Page g is in use and not marked.
 fn is_unmarked(labels: &[u16], marks: &[bool; 4096], g: usize) -> bool
     requires { ⌜ g < 4096 ⌝ }
     ensures { λ r. ⌜ r ≡ unmarked (now (labels .entry)) (now (marks .entry)) g ⌝ }
 {
-    let marked = marks[g];
     if record::label_at(labels, g) == 0 {
         return false;
     }
-    !marked
+    !marks[g]
 }
 
-// How many pages are in use and not marked. Those past the labels are free.
-fn count_unmarked(labels: &[u16], marks: &[bool; 4096], pages: u32) -> u32
-    requires { ⌜ pages ≤ 4096 ⌝ }
-    ensures { λ r. ⌜ (r ≡ count (unmarked (now (labels .entry)) (now (marks .entry))) (block 1 pages)) × (r ≤ 4095) ⌝ }
+// The words in objects on page g. They lie end to end, so its walk counts them: up to the first word that is no header, or to
+// the page's end.
+fn words_on(heap: &[u32], r: Record, g: usize) -> usize
+    requires { ⌜ (r .page ≤ 1024) × (g < 4096) ⌝ }
+    ensures { λ x. ⌜ ((labels links : List ℕ) → x ≡ wordsOn (lent (now (heap .entry)) labels links r) g) × (x ≤ r .page) ⌝ }
 {
-    let end = tables::smaller(pages as usize, labels.len());
-    let mut n = 0;
+    let page = r.page as usize;
+    let base = g * page;
+    let end = base + page;
+    let mut at = base;
+    let stop = loop {
+        if heap.len() <= at {
+            break at;
+        }
+        let w = heap[at];
+        if !header::is_header(w, end - at) {
+            break at;
+        }
+        at += header::size_of(w);
+    };
+    stop - base
+}
+
+// The words in objects on pages that are in use and not marked. Pages past the labels are free.
+fn words_unmarked(heap: &[u32], labels: &[u16], marks: &[bool; 4096], r: Record) -> u32
+    requires { ⌜ (r .page ≤ 1024) × (r .pages ≤ 4096) ⌝ }
+    ensures { λ x. ⌜ ((links : List ℕ) → x ≡ sum (wordsUnmarked (lent (now (heap .entry)) (now (labels .entry)) links r) (now (marks .entry))) (block 1 (r .pages))) ⌝ }
+{
+    let end = tables::smaller(r.pages as usize, labels.len());
+    let mut words = 0;
     let mut g: usize = 1;
     while g < end {
         if is_unmarked(labels, marks, g) {
-            n += 1;
+            words += words_on(heap, r, g);
         }
         g += 1;
     }
-    n
+    words as u32
 }
 
-// k' of these hints, where there are `pages` pages of `page` words.
-pub fn pages_unhinted(labels: &[u16], hints: &[u32], page: u32, pages: u32) -> u32
-    requires { ⌜ pages ≤ 4096 ⌝ }
-    ensures { λ r. ⌜ (r ≡ pagesUnhinted (now (labels .entry)) 1 pages (pagesNamed page 1 pages (now (hints .entry)))) × (r ≤ 4095) ⌝ }
+// W of these hints. The links play no part.
+pub fn words_unhinted(heap: &[u32], labels: &[u16], r: Record, hints: &[u32]) -> u32
+    requires { ⌜ (r .page ≤ 1024) × (r .pages ≤ 4096) ⌝ }
+    ensures { λ x. ⌜ ((links : List ℕ) → x ≡ wordsUnhinted (lent (now (heap .entry)) (now (labels .entry)) links r) (now (hints .entry))) ⌝ }
 {
     let mut marks = [false; 4096];
-    mark_named(&mut marks, hints, page, pages);
-    count_unmarked(labels, &marks, pages)
+    mark_named(&mut marks, hints, r.page, r.pages);
+    words_unmarked(heap, labels, &marks, r)
 }

@@ -2,7 +2,7 @@
 -- one less.
 use mathlib.Core.Path.{_≡_, refl, sym, ap, _∙_}
 use mathlib.Core.Logic.{_≢_, _⊎_, inl, inr}
-use mathlib.Core.Bool.{Bool, true, false, cond, not, _&&_}
+use mathlib.Core.Bool.{Bool, true, false, cond, not}
 use mathlib.Core.List.{List, [], _∷_}
 use Prim.Native.Nat.{ℕ, zero, suc, _+_, _-_, _≤_, _<_}
 use native.Mathlib.Decide.{ℕ-discrete}
@@ -11,10 +11,9 @@ use lib.ListN.{length, set, List·getD-eq-default}
 use lib.Seq.{getD-set-same, getD-set-other}
 use lib.Dec.{eqb}
 use borrow.Author.Tests.{eqb-true, eq-eqb, ne-eqb}
-use Rattle.rules.specs.Ranges.{at, from, block, has, count, first}
+use Rattle.rules.specs.Ranges.{at, from, block, count, first}
 use Rattle.laws.specs.Lists.{count-past, count-none, count-yes, count-no, first-past, first-here, first-step}
-use Rattle.rules.specs.Pages.{isFree, lowestFree, pagesUsed, pagesUnhinted}
-use Rattle.rules.specs.Tests.{and-left}
+use Rattle.rules.specs.Pages.{isFree, lowestFree, pagesUsed}
 
 -- ---- counting in a range
 
@@ -119,12 +118,6 @@ lowest labels lo hi h =
 pub used-and-free : (labels : List ℕ) (lo hi : ℕ) → pagesUsed labels lo hi + freePages labels lo hi ≡ hi - lo
 unfolding pagesUsed freePages
 used-and-free labels lo hi = count-not (isFree labels) (block lo hi) ∙ block-length lo hi
-
--- no more pages are unhinted than are in use
-pub unhinted-few : (labels : List ℕ) (lo hi : ℕ) (named : List ℕ) → pagesUnhinted labels lo hi named ≤ pagesUsed labels lo hi
-unfolding pagesUnhinted pagesUsed
-unhinted-few labels lo hi named =
-    count-fewer (λ g. not (isFree labels g)) (λ g. not (isFree labels g) && not (has g named)) (λ g q. and-left (not (isFree labels g)) _ q) (block lo hi)
 
 -- where fewer are in use than there are, one is found
 pub lowest-free : (labels : List ℕ) (lo hi : ℕ) → pagesUsed labels lo hi < hi - lo → Lowest labels lo hi

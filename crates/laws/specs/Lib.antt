@@ -9,6 +9,7 @@ pub mod Walks
 pub mod Objects
 pub mod LookUp
 pub mod Landed
+pub mod Room
 pub mod Sound
 pub mod Safe
 pub mod Collect

@@ -3,7 +3,7 @@ use mathlib.Core.Path.{_≡_, refl, sym, ap, _∙_}
 use mathlib.Core.Logic.{_⊎_, inl, inr}
 use mathlib.Core.Bool.{Bool, true, false, cond, _||_, true≢false}
 use mathlib.Core.List.{List, [], _∷_, List·Memᴰ, List·Memᴰ·head, List·Memᴰ·tail, List·Memᴰ·cases-cons, List·Memᴰ·not-nil}
-use Prim.Native.Nat.{ℕ, zero, suc, _+_, _-_, _≤_, _<_}
+use Prim.Native.Nat.{ℕ, zero, suc, _+_, _*_, _-_, _≤_, _<_}
 use native.Mathlib.Omega.{arith}
 use native.Mathlib.Numerals.{add-one}
 use lib.ListN.{length, getD, drop, drop-of-length-le}
@@ -11,7 +11,7 @@ use lib.Seq.{drop-cons}
 use lib.Dec.{eqb}
 use borrow.Author.Tests.{eqb-true, eqb-false}
 use Rattle.rules.specs.Tests.{and-left, and-right}
-use Rattle.rules.specs.Ranges.{from, block, each, has, count, first}
+use Rattle.rules.specs.Ranges.{from, block, each, has, count, sum, first}
 
 -- ---- ranges
 
@@ -146,6 +146,38 @@ count-none f lo hi h = none (block lo hi) (λ x k. let q = mem-block lo hi x k i
     none : (xs : List ℕ) → ((x : ℕ) → List·Memᴰ x xs → f x ≡ false) → count f xs ≡ 0
     none [] h = refl
     none (y ∷ xs) h = rw (h y (List·Memᴰ·head refl)) (omega (arith, none xs (λ x k. h x (List·Memᴰ·tail k))))
+
+-- ---- what is added up
+
+module _ (f : ℕ → ℕ) (i hi : ℕ) where
+  pub sum-past : hi ≤ i → sum f (block i hi) ≡ 0
+  unfolding sum
+  sum-past p = rw (block-past i hi p)
+
+  pub sum-step : i < hi → sum f (block i hi) ≡ f i + sum f (block (i + 1) hi)
+  unfolding sum
+  sum-step p = rw (block-step i hi p)
+
+-- what agrees on every member adds up to the same
+pub sum-same : (f e : ℕ → ℕ) (xs : List ℕ) → ((x : ℕ) → List·Memᴰ x xs → f x ≡ e x) → sum f xs ≡ sum e xs
+unfolding sum
+sum-same f e [] h = refl
+sum-same f e (x ∷ xs) h = rw (h x (List·Memᴰ·head refl), sum-same f e xs (λ y k. h y (List·Memᴰ·tail k)))
+
+pub sum-none : (f : ℕ → ℕ) (xs : List ℕ) → ((x : ℕ) → List·Memᴰ x xs → f x ≡ 0) → sum f xs ≡ 0
+unfolding sum
+sum-none f [] h = refl
+sum-none f (x ∷ xs) h = rw (h x (List·Memᴰ·head refl), sum-none f xs (λ y k. h y (List·Memᴰ·tail k)))
+
+-- those that pass a test, where none has more than n
+pub sum-most : (f : ℕ → Bool) (e : ℕ → ℕ) (n : ℕ) → ((x : ℕ) → e x ≤ n) → (xs : List ℕ) → sum (λ x. cond (f x) (e x) 0) xs ≤ count f xs * n
+unfolding sum count
+sum-most f e n h [] = omega arith
+sum-most f e n h (x ∷ xs) = go (f x) (sum-most f e n h xs)
+  where
+    go : (b : Bool) → sum (λ x. cond (f x) (e x) 0) xs ≤ count f xs * n → cond b (e x) 0 + sum (λ x. cond (f x) (e x) 0) xs ≤ (cond b 1 0 + count f xs) * n
+    go true ih = omega (arith, h x)
+    go false ih = omega arith
 
 pub count-le : (f : ℕ → Bool) (xs : List ℕ) → count f xs ≤ length xs
 unfolding count

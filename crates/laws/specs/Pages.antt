@@ -3,15 +3,15 @@ use mathlib.Core.Path.{_≡_, refl, sym, ap, _∙_}
 use mathlib.Core.Logic.{inl, inr, _≢_, _⊎_}
 use mathlib.Core.Bool.{Bool, true, false, cond, _&&_, or-true, and-false}
 use mathlib.Core.List.{List, [], _∷_, map, List·Memᴰ, Memᴰ·cast, Memᴰ·map, Memᴰ·of-map}
-use Prim.Native.Nat.{ℕ, zero-le, _+_, _*_, _-_, _/_, _%_, _≤_, _<_, _^_, suc}
+use Prim.Native.Nat.{ℕ, _+_, _*_, _-_, _/_, _%_, _≤_, _<_, _^_, suc}
 use native.Mathlib.Nat.{zero-mod, div-zero, mul-add-div-right, div-eq-of-lt, add-zero, div-add-mod', mod-lt, mul-le-mul, mul-le-mul-right, suc-mul}
 use native.Mathlib.Omega.{arith}
 use types.Run.{OneOf}
-use lib.Dec.{eqb, leb, ltb}
-use borrow.Author.Tests.{eqb-true, eqb-false, leb-true, eq-eqb, ne-eqb, le-leb, lt-leb, lt-ltb, le-ltb}
+use lib.Dec.{leb, ltb}
+use borrow.Author.Tests.{leb-true, eq-eqb, ne-eqb, le-leb, lt-leb, lt-ltb, le-ltb}
 use Rattle.rules.specs.Tests.{and-left, and-right}
 use Rattle.rules.specs.Ranges.{from, block, each, has, at}
-use Rattle.rules.specs.Pages.{pageSizes, isPageSize, isShape, pageNamed, pageNamedBefore, pagesNeeded}
+use Rattle.rules.specs.Pages.{pageSizes, isPageSize, isShape, pageNamed, pageNamedBefore}
 use Rattle.laws.specs.Lists.{has-mem, mem-has, each-true, block-mem, mem-block}
 use native.Mathlib.Decide.{decLt}
 
@@ -170,15 +170,3 @@ module _ (P lo hi w : ℕ) where
       go : Dec (0 < w) → 0 < w
       go (yes p) = p
       go (no p) = absurd (h (let z : w ≡ 0 = omega arith in rw (z, zero-mod)))
-
--- ---- how many a collection may need
-
--- the more are unhinted, the more a collection may take
-pub needed-more : (a b : ℕ) → a ≤ b → pagesNeeded a ≤ pagesNeeded b
-unfolding pagesNeeded
-needed-more a b h = go (eqb a 0) refl (eqb b 0) refl
-  where
-    go : (s : Bool) → eqb a 0 ≡ s → (t : Bool) → eqb b 0 ≡ t → cond s 0 (2 * a - 1) ≤ cond t 0 (2 * b - 1)
-    go true p t q = zero-le
-    go false p true q = absurd (let n = eqb-false a 0 p in let z = eqb-true b 0 q in omega arith)
-    go false p false q = omega arith

@@ -7,10 +7,10 @@ use mathlib.Core.List.{List, [], _∷_, List·Memᴰ, List·Memᴰ·head, List·
 use Prim.Native.Nat.{ℕ, zero, suc, _+_, _*_, _-_, _≤_, _<_}
 use native.Mathlib.Omega.{arith}
 use lib.ListN.{length}
-use Rattle.rules.specs.Ranges.{at}
+use Rattle.rules.specs.Ranges.{at, sum}
 use Rattle.rules.specs.Header.{sizeOf, isHeader}
 use Rattle.rules.specs.Lent.{Lent}
-use Rattle.rules.specs.Walk.{walk, behind, starts, stop}
+use Rattle.rules.specs.Walk.{walk, behind, starts, stop, wordsOn}
 use Rattle.laws.specs.Headers.{Header, header-says, header-full}
 
 abbrev pub size : List ℕ → ℕ → ℕ
@@ -144,6 +144,20 @@ steps-stop {h} (step {a = a} {room = room} {z = z} e r) =
     let K : Header (at h a) room = header-says _ _ e in
     let w : a + size h a + (room - size h a) - z ≡ a + room - z = omega (arith, K .fits) in
     rw w at (steps-stop r)
+
+-- what it meets lies end to end, from its first word to the stop
+pub steps-words : {h : List ℕ} {a room z : ℕ} {l : List ℕ} → Steps h a room l z → a + sum (size h) l ≡ z
+unfolding sum
+steps-words (stops e) = omega arith
+steps-words (step e r) = omega (arith, steps-words r)
+
+-- the words in objects on a page, and that there are no more than P
+pub words-on : (m : Lent) (g : ℕ) → g * m .rec .page + wordsOn m g ≡ stop m g
+unfolding wordsOn
+words-on m g = steps-words (page-steps m g)
+
+pub words-on-page : (m : Lent) (g : ℕ) → wordsOn m g ≤ m .rec .page
+words-on-page m g = omega (arith, words-on m g, steps-upto (page-steps m g) .1)
 
 -- it stops past its first word exactly where it meets something
 pub steps-some : {h : List ℕ} {a room z : ℕ} {l : List ℕ} → Steps h a room l z → a < z → 1 ≤ length l

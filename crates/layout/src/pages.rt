@@ -88,17 +88,18 @@ pub fn page_named_before_checked(word: u32, page: u32, pages: u32) -> u32
     page_named_before(page, 1, pages, word)
 }
 
-// How many pages a collection may take where no hint names `unhinted` of the pages in use.
-pub fn pages_needed(unhinted: u32) -> u32
-    ensures { λ r. ⌜ r ≡ pagesNeededToC unhinted ⌝ }
+// How many pages a collection may take for `words` words on pages of `page`. A native solver may ask with any page size: for a
+// bad one no number of pages is enough.
+pub fn pages_needed(words: u32, page: u32) -> u32
+    ensures { λ r. ⌜ r ≡ pagesNeededToC words page ⌝ }
 {
-    if 4095 < unhinted {
+    if !is_page_size(page) {
         return 4294967295;
     }
-    if unhinted == 0 {
+    if words == 0 {
         return 0;
     }
-    2 * unhinted - 1
+    2 * (words / (page + 1)) + 1
 }
 
 // The label that a collection gives to what it retains.

@@ -1,24 +1,33 @@
 -- Collect: its tests in the order 1, 7, 6, 8, what it answers, and all that it leaves.
-use mathlib.Core.Bool.{Bool, cond, not}
+use mathlib.Core.Bool.{Bool, cond, not, _&&_}
 use mathlib.Core.List.{List}
 use Prim.Native.Nat.{ℕ, _-_}
 use lib.ListN.{length}
 use lib.Dec.{eqb, ltb}
 use Rattle.rules.specs.declared.Collected.{Collected}
-use Rattle.rules.specs.Ranges.{each}
-use Rattle.rules.specs.Pages.{pagesNamed, pagesUsed, pagesUnhinted, pagesNeeded}
+use Rattle.rules.specs.Ranges.{block, each, has, count, sum}
+use Rattle.rules.specs.Pages.{pagesNamed, isFree, pagesUsed, pagesNeeded}
 use Rattle.rules.specs.Lent.{Lent, lent, isValid}
-use Rattle.rules.specs.Walk.{isReference}
+use Rattle.rules.specs.Walk.{wordsOn, isReference}
 use Rattle.rules.specs.Sound.{isSound}
 use Rattle.rules.specs.Collection.{Collection, plainly, collection}
 
--- k' of these hints
-unfoldable pub unhinted : Lent → List ℕ → ℕ
-unhinted m hints = pagesUnhinted (m .labels) 1 (m .rec .pages) (pagesNamed (m .rec .page) 1 (m .rec .pages) hints)
+-- page g is in use, and one "that no hint names"
+unfoldable pub isUnhinted : Lent → List ℕ → ℕ → Bool
+isUnhinted m hints g = not (isFree (m .labels) g) && not (has g (pagesNamed (m .rec .page) 1 (m .rec .pages) hints))
 
--- not refused 8: "k' ≥ 1 and 2k' - 1 > N - k" does not hold
+-- k': how many there are. Since Q-3 no rule asks for it; "the old figure", 2k' - 1, is what Q-3's is compared with
+unfoldable pub pagesUnhinted : Lent → List ℕ → ℕ
+pagesUnhinted m hints = count (isUnhinted m hints) (block 1 (m .rec .pages))
+
+-- Q-3: "Let W be the words in objects on unhinted pages in use."
+unfoldable pub wordsUnhinted : Lent → List ℕ → ℕ
+wordsUnhinted m hints = sum (λ g. cond (isUnhinted m hints g) (wordsOn m g) 0) (block 1 (m .rec .pages))
+
+-- not refused 8. Q-3: "8 is given exactly when the new figure exceeds N - k"
 unfoldable pub hasRoom : Lent → List ℕ → Bool
-hasRoom m hints = not (ltb (m .rec .pages - 1 - pagesUsed (m .labels) 1 (m .rec .pages)) (pagesNeeded (unhinted m hints)))
+hasRoom m hints =
+    not (ltb (m .rec .pages - 1 - pagesUsed (m .labels) 1 (m .rec .pages)) (pagesNeeded (m .rec .page) (wordsUnhinted m hints)))
 
 -- the refusal's number, 0 if accepted: "Checks go by number, except that collect tests 1, 7, 6, 8."
 unfoldable pub refusalOfCollect : Lent → List ℕ → List ℕ → ℕ

@@ -13,7 +13,7 @@ use Rattle.rules.specs.Lent.{Lent}
 use Rattle.rules.specs.Sound.{InUse, IsObject, Sound, refs, payload}
 use Rattle.rules.specs.Calls.{Outcome, start, allocate, lookUp, load, store}
 use Rattle.rules.specs.Collection.{plainly, collection}
-use Rattle.rules.specs.Collect.{CollectOutcome, collect, unhinted}
+use Rattle.rules.specs.Collect.{CollectOutcome, collect, wordsUnhinted}
 
 -- ---- demand 1: "Bad calls get a refusal number from the table; the value is then 0, and record and memory are as before."
 
@@ -125,11 +125,11 @@ pub record Faithful (m : Lent) (roots hints : List ℕ) (o : CollectOutcome) (Pa
       → Hinted m hints g ⊎ ((x : ℕ) × (y : ℕ) × Pairs x y × (y / m .rec .page ≡ g) × (Hinted m hints (x / m .rec .page) → ⊥))
 
 -- "Each accepted collection finds a free page whenever it needs one": those that it takes, in order, were free, in 1 to
--- T - 1, each is taken once, and there are never more than 2k' - 1
+-- T - 1, and each is taken once. Q-3: there are never more than the figure of refusal 8
 pub record FindsPages (m : Lent) (roots hints : List ℕ) (taken : List ℕ) : Type 0 where
   pub free : (g : ℕ) → List·Memᴰ g taken → (1 ≤ g) × (g < m .rec .pages) × (at (m .labels) g ≡ 0)
   pub distinct : (i j : ℕ) → i < length taken → j < length taken → at taken i ≡ at taken j → i ≡ j
-  pub few : length taken ≤ pagesNeeded (unhinted m hints)
+  pub few : length taken ≤ pagesNeeded (m .rec .page) (wordsUnhinted m hints)
 
 -- demand 3
 pub record Demand3 : Type 1 where

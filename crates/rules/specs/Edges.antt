@@ -1,4 +1,4 @@
--- The starred edges of document 01, and those of Q-1 and Q-2: one table, and one theorem that antt computes. The program `edges` runs
+-- The starred edges of document 01, and those of Q-1 to Q-3: one table, and one theorem that antt computes. The program `edges` runs
 -- the same on the code.
 use mathlib.Core.Path.{_≡_, refl, ap, _∙_, sym}
 use mathlib.Core.Logic.{_⊎_, inl, inr}
@@ -46,8 +46,9 @@ edges =
     ∷ edge (at (pagesOfHint 8 1 6 0) 0) 0 ∷ edge (at (pagesOfHint 8 1 6 0) 1) 0 ∷ edge (pageNamedBeforeToC 0 8 6) 0
     ∷ edge (at (pagesOfHint 8 1 6 8) 0) 1 ∷ edge (at (pagesOfHint 8 1 6 8) 1) 0 ∷ edge (pageNamedBeforeToC 8 8 6) 0
     ∷ edge (at (pagesOfHint 8 1 6 16) 0) 2 ∷ edge (at (pagesOfHint 8 1 6 16) 1) 1 ∷ edge (pageNamedBeforeToC 16 8 6) 1
-    -- "Pages needed: k' 0 gives 0, 1 gives 1, 2 gives 3."
-    ∷ edge (pagesNeededToC 0) 0 ∷ edge (pagesNeededToC 1) 1 ∷ edge (pagesNeededToC 2) 3
+    -- Pages needed. Q-3: "With P 8, W 0, 8 and 9 give 0, 1 and 3"; "a bad P gives 4,294,967,295"
+    ∷ edge (pagesNeededToC 0 8) 0 ∷ edge (pagesNeededToC 8 8) 1 ∷ edge (pagesNeededToC 9 8) 3
+    ∷ edge (pagesNeededToC 0 0) 4294967295 ∷ edge (pagesNeededToC 9 12) 4294967295
     -- "N 5, k 1: a new page is given. N 5, k 2: refused 3."
     ∷ edge (allocate used1 7 0 .refusal) 0 ∷ edge (allocate used1 7 0 .value) 16 ∷ edge (allocate used2 7 0 .refusal) 3
     -- Q-2: "0 and the start, 10 and s, or 4 and 0". Of the object at 8, which ends its page: its start, its first and last words

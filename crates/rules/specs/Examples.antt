@@ -6,15 +6,15 @@ use mathlib.Core.List.{List, [], _∷_}
 use Prim.Native.Nat.{ℕ, _+_, _*_}
 use lib.ListN.{take, drop, replicate}
 use Rattle.rules.specs.declared.Found.the-variants.{Start, Inside, Nothing}
-use Rattle.rules.specs.Ranges.{at, from, block, each, has, count, first}
+use Rattle.rules.specs.Ranges.{at, from, block, each, has, count, sum, first}
 use Rattle.rules.specs.Header.{headerOf, sizeOf, refsOf, isHeader}
-use Rattle.rules.specs.Pages.{isPageSize, pageAtStart, isShape, pageNamed, pageNamedBefore, pagesOfHint, pagesNamed, isFree, lowestFree, pagesUsed, pagesUnhinted, pagesNeeded, otherLabel}
+use Rattle.rules.specs.Pages.{isPageSize, pageAtStart, isShape, pageNamed, pageNamedBefore, pagesOfHint, pagesNamed, isFree, lowestFree, pagesUsed, pagesNeeded, otherLabel}
 use Rattle.rules.specs.Lent.{Lent, isLaidOut, isLabel, isOpen, isValid}
-use Rattle.rules.specs.Walk.{walk, behind, starts, stop, isInUse, isStart, isReference, landing, found}
+use Rattle.rules.specs.Walk.{walk, behind, starts, stop, wordsOn, isInUse, isStart, isReference, landing, found}
 use Rattle.rules.specs.Sound.{isBlank, refsGood, isUsedSound, isPageSound, isFillSound, isSound}
 use Rattle.rules.specs.Calls.{refused, inside, accepted, start, withObject, allocate, lookUp, load, mayStore, store}
 use Rattle.rules.specs.Collection.{hintPage, hintPages, takePage, withRoom, top, put, copyObject, forward, forwardRoots, sweepReference, sweepReferences, sweepPage, sweepQueue, freedLabels, freedHeap, planOf, begun, afterHints, afterRoots, afterSweep, collection}
-use Rattle.rules.specs.Collect.{unhinted, hasRoom, refusalOfCollect, CollectOutcome, refusedCollect, acceptedCollect, collect}
+use Rattle.rules.specs.Collect.{isUnhinted, pagesUnhinted, wordsUnhinted, hasRoom, refusalOfCollect, CollectOutcome, refusedCollect, acceptedCollect, collect}
 
 -- P 8, T 6, on memory that held something else
 unfoldable pub fresh : Lent
@@ -55,6 +55,13 @@ boundary =
     let started = start (record { heap = replicate 96 7; labels = replicate 12 7; links = replicate 12 7; rec = fresh .rec }) 8 12 .lent in
     let made = allocate (allocate (allocate (allocate started 7 1 .lent) 7 1 .lent) 2 0 .lent) 2 0 .lent in
     store (store made 8 0 24 .lent) 16 0 27 .lent
+
+-- Q-3: objects of 4, 5 and 4 words, none of which fits behind the one before: each is copied to a page of its own. Two pages are free
+unfoldable spread : Lent
+spread = collect (allocate (allocate (allocate fresh 3 0 .lent) 3 0 .lent) 4 0 .lent) (8 ∷ 16 ∷ 12 ∷ []) [] .lent
+
+unfoldable scattered : List ℕ
+scattered = 24 ∷ 32 ∷ 40 ∷ []
 
 record Examples : Type 0 where
   -- header words: d 1 and p 1 with just enough room; p = n, n = 0, an even word, too little room
@@ -109,6 +116,13 @@ record Examples : Type 0 where
   both : collect boundary [] (16 ∷ []) .lent .labels ≡ 0 ∷ 2 ∷ 2 ∷ 0 ∷ 2 ∷ 0 ∷ 0 ∷ 0 ∷ 0 ∷ 0 ∷ 0 ∷ 0 ∷ []
   own-first : at (collect boundary [] (16 ∷ []) .lent .heap) 17 ≡ 32
   then-before : at (collect boundary [] (16 ∷ []) .lent .heap) 9 ≡ 35
+  -- Q-3: with the 5 words hinted 8 are left: they need one page, where 2k' - 1 is three
+  eight : (wordsUnhinted spread (33 ∷ []) ≡ 8) × (pagesUnhinted spread (33 ∷ []) ≡ 2) × (collect spread scattered (33 ∷ []) .refusal ≡ 0)
+  eight-taken : (collect spread scattered (33 ∷ []) .taken ≡ 1) × (collect spread scattered (33 ∷ []) .words ≡ 8)
+  -- one word more may need three, and is refused; so is all of it; and with every page hinted there is nothing to copy
+  nine : (wordsUnhinted spread (25 ∷ []) ≡ 9) × (collect spread scattered (25 ∷ []) .refusal ≡ 8)
+  thirteen : (wordsUnhinted spread [] ≡ 13) × (collect spread scattered [] .refusal ≡ 8)
+  nothing : (wordsUnhinted spread scattered ≡ 0) × (collect spread scattered scattered .refusal ≡ 0)
   -- unsound heaps and bad roots are refused: a stray word on a free page, a root inside an object
   stray : collect (record { heap = replicate 48 1; labels = fresh .labels; links = fresh .links; rec = fresh .rec }) [] [] .refusal ≡ 7
   root : collect across (9 ∷ []) [] .refusal ≡ 6
@@ -125,7 +139,7 @@ record Examples : Type 0 where
   store-reference : (store after6 8 0 13 .refusal ≡ 6) × (store after6 8 0 13 .value ≡ 0)
 
 examples : Examples
-unfolding from block each has count first headerOf sizeOf refsOf isHeader isPageSize pageAtStart isShape pageNamed pageNamedBefore pagesOfHint pagesNamed isFree lowestFree pagesUsed pagesUnhinted pagesNeeded otherLabel isLaidOut isLabel isOpen isValid walk behind starts stop isInUse isStart isReference landing found isBlank refsGood isUsedSound isPageSound isFillSound isSound refused inside accepted start withObject allocate lookUp load mayStore store hintPage hintPages takePage withRoom top put copyObject forward forwardRoots sweepReference sweepReferences sweepPage sweepQueue freedLabels freedHeap planOf begun afterHints afterRoots afterSweep collection unhinted hasRoom refusalOfCollect refusedCollect acceptedCollect collect fresh small after4 after6 record8 roots8 record14 itself across boundary
+unfolding from block each has count sum first headerOf sizeOf refsOf isHeader isPageSize pageAtStart isShape pageNamed pageNamedBefore pagesOfHint pagesNamed isFree lowestFree pagesUsed pagesNeeded otherLabel isLaidOut isLabel isOpen isValid walk behind starts stop wordsOn isInUse isStart isReference landing found isBlank refsGood isUsedSound isPageSound isFillSound isSound refused inside accepted start withObject allocate lookUp load mayStore store hintPage hintPages takePage withRoom top put copyObject forward forwardRoots sweepReference sweepReferences sweepPage sweepQueue freedLabels freedHeap planOf begun afterHints afterRoots afterSweep collection isUnhinted pagesUnhinted wordsUnhinted hasRoom refusalOfCollect refusedCollect acceptedCollect collect fresh small after4 after6 record8 roots8 record14 itself across boundary spread scattered
 examples = record {
   header = refl;
   header-refs = refl;
@@ -166,6 +180,11 @@ examples = record {
   both = refl;
   own-first = refl;
   then-before = refl;
+  eight = (refl, refl, refl);
+  eight-taken = (refl, refl);
+  nine = (refl, refl);
+  thirteen = (refl, refl);
+  nothing = (refl, refl);
   stray = refl;
   root = refl;
   at-start = (refl, refl);

@@ -1,7 +1,7 @@
 -- Pages: their size and number, which one a word names, which are free, how many a collection may need.
 use mathlib.Core.Bool.{Bool, cond, not, _&&_}
 use mathlib.Core.List.{List, [], _∷_, _++_}
-use Prim.Native.Nat.{ℕ, _*_, _-_, _/_}
+use Prim.Native.Nat.{ℕ, _+_, _*_, _-_, _/_}
 use lib.Dec.{eqb, leb, ltb}
 use Rattle.rules.specs.Ranges.{at, block, has, count, first}
 
@@ -50,13 +50,9 @@ lowestFree labels lo hi = first (isFree labels) (block lo hi) hi
 unfoldable pub pagesUsed : List ℕ → ℕ → ℕ → ℕ
 pagesUsed labels lo hi = count (λ g. not (isFree labels g)) (block lo hi)
 
--- k': "those of them that no hint names"; `named` are the pages that hints name
-unfoldable pub pagesUnhinted : List ℕ → ℕ → ℕ → List ℕ → ℕ
-pagesUnhinted labels lo hi named = count (λ g. not (isFree labels g) && not (has g named)) (block lo hi)
-
--- "at most 2k' - 1 pages are taken", and none if k' is 0
-unfoldable pub pagesNeeded : ℕ → ℕ
-pagesNeeded k′ = cond (eqb k′ 0) 0 (2 * k′ - 1)
+-- Q-3: to copy W words "a collection takes at most 2·floor(W / (P + 1)) + 1 pages if W is at least 1, else none"
+unfoldable pub pagesNeeded : ℕ → ℕ → ℕ
+pagesNeeded P W = cond (leb 1 W) (2 * (W / (P + 1)) + 1) 0
 
 -- "Pages in use carry the current label, 1 or 2; a collection gives the other one to what it retains."
 unfoldable pub otherLabel : ℕ → ℕ
@@ -71,6 +67,6 @@ pageNamedToC w P T = cond (isShape P T) (pageNamed P 1 T w) 0
 unfoldable pub pageNamedBeforeToC : ℕ → ℕ → ℕ → ℕ
 pageNamedBeforeToC w P T = cond (isShape P T) (pageNamedBefore P 1 T w) 0
 
--- pages needed: "The second takes k'; above 4,095 it gives 4,294,967,295."
-unfoldable pub pagesNeededToC : ℕ → ℕ
-pagesNeededToC k′ = cond (ltb 4095 k′) 4294967295 (pagesNeeded k′)
+-- Q-3: "The C call for pages needed takes W and P instead; a bad P gives 4,294,967,295."
+unfoldable pub pagesNeededToC : ℕ → ℕ → ℕ
+pagesNeededToC W P = cond (isPageSize P) (pagesNeeded P W) 4294967295

@@ -33,6 +33,11 @@ unfoldable pub count : (ℕ → Bool) → List ℕ → ℕ
 count f [] = 0
 count f (x ∷ xs) = cond (f x) 1 0 + count f xs
 
+-- what f gives for each member, added up
+unfoldable pub sum : (ℕ → ℕ) → List ℕ → ℕ
+sum f [] = 0
+sum f (x ∷ xs) = f x + sum f xs
+
 -- the first member that passes the test, or e where none does
 unfoldable pub first : (ℕ → Bool) → List ℕ → ℕ → ℕ
 first f [] e = e

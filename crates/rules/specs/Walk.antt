@@ -5,7 +5,7 @@ use Prim.Native.Nat.{ℕ, zero, suc, _+_, _*_, _-_, _/_}
 use lib.Dec.{eqb, leb, ltb}
 use Rattle.rules.specs.declared.Found.{Found}
 use Rattle.rules.specs.declared.Found.the-variants.{Start, Inside, Nothing}
-use Rattle.rules.specs.Ranges.{at, has}
+use Rattle.rules.specs.Ranges.{at, has, sum}
 use Rattle.rules.specs.Header.{sizeOf, isHeader}
 use Rattle.rules.specs.Lent.{Lent}
 
@@ -31,6 +31,10 @@ starts m g = walk (m .rec .page) (m .heap) (g * m .rec .page) (m .rec .page)
 -- the walk's stop on page g
 unfoldable pub stop : Lent → ℕ → ℕ
 stop m g = behind (m .heap) (g * m .rec .page) (starts m g)
+
+-- Q-3: "the words in objects" on page g, their headers with them
+unfoldable pub wordsOn : Lent → ℕ → ℕ
+wordsOn m g = sum (λ x. sizeOf (at (m .heap) x)) (starts m g)
 
 -- "on a page 1 to T-1 with the current label"
 unfoldable pub isInUse : Lent → ℕ → Bool

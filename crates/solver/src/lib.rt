@@ -115,10 +115,10 @@ pub extern "C" fn fouterpin_page_named_before(word: u32, page: u32, pages: u32) 
     layout::pages::page_named_before_checked(word, page, pages)
 }
 
-// How many pages a collection may need, where no hint names `unhinted` of the pages in use.
+// How many pages a collection may need, where there are `words` words in objects on pages in use that no hint names.
 #[no_mangle]
-pub extern "C" fn fouterpin_pages_needed(unhinted: u32) -> u32
-    ensures { λ r. ⌜ r ≡ pagesNeededToC unhinted ⌝ }
+pub extern "C" fn fouterpin_pages_needed(words: u32, page: u32) -> u32
+    ensures { λ r. ⌜ r ≡ pagesNeededToC words page ⌝ }
 {
-    layout::pages::pages_needed(unhinted)
+    layout::pages::pages_needed(words, page)
 }

@@ -4,16 +4,16 @@ use mathlib.Core.Path.{_≡_, refl}
 use mathlib.Core.List.{List, [], _∷_}
 use Prim.Native.Nat.{ℕ}
 use lib.ListN.{take}
-use Rattle.rules.specs.Ranges.{from, block, each, has, count, first}
+use Rattle.rules.specs.Ranges.{from, block, each, has, count, sum, first}
 use Rattle.rules.specs.Header.{headerOf, sizeOf, refsOf, isHeader}
-use Rattle.rules.specs.Pages.{isPageSize, pageAtStart, isShape, pageNamed, pageNamedBefore, pagesOfHint, pagesNamed, isFree, lowestFree, pagesUsed, pagesUnhinted, pagesNeeded, otherLabel}
+use Rattle.rules.specs.Pages.{isPageSize, pageAtStart, isShape, pageNamed, pageNamedBefore, pagesOfHint, pagesNamed, isFree, lowestFree, pagesUsed, pagesNeeded, otherLabel}
 use Rattle.rules.specs.Lent.{isLaidOut, isLabel, isOpen, isValid}
-use Rattle.rules.specs.Walk.{walk, behind, starts, stop, isInUse, isStart, isReference, landing, found}
+use Rattle.rules.specs.Walk.{walk, behind, starts, stop, wordsOn, isInUse, isStart, isReference, landing, found}
 use Rattle.rules.specs.Sound.{isBlank, refsGood, isUsedSound, isPageSound, isFillSound, isSound}
 use Rattle.rules.specs.Calls as calls
 use Rattle.rules.specs.Calls.{start, inside, withObject, allocate, lookUp, load, mayStore, store}
 use Rattle.rules.specs.Collection.{hintPage, hintPages, takePage, withRoom, top, put, copyObject, forward, forwardRoots, sweepReference, sweepReferences, sweepPage, sweepQueue, freedLabels, freedHeap, planOf, begun, afterHints, afterRoots, afterSweep, collection}
-use Rattle.rules.specs.Collect.{unhinted, hasRoom, refusalOfCollect, refusedCollect, acceptedCollect, collect}
+use Rattle.rules.specs.Collect.{isUnhinted, wordsUnhinted, hasRoom, refusalOfCollect, refusedCollect, acceptedCollect, collect}
 use Rattle.entries.specs.Entries.{decode}
 use Rattle.steps.specs.Session.{before, refused, accepted, passed, blank, perform, step}
 use Rattle.lines.specs.Lines.{digits, number, line, noted, ending}
@@ -94,7 +94,7 @@ record Examples : Type 0 where
   seven : transcript (take 7 input) ≡ 48 ∷ 32 ∷ 57 ∷ 32 ∷ 48 ∷ 10 ∷ 101 ∷ 110 ∷ 100 ∷ 32 ∷ 49 ∷ 32 ∷ 48 ∷ 32 ∷ 49 ∷ 10 ∷ []
 
 examples : Examples
-unfolding from block each has count first headerOf sizeOf refsOf isHeader isPageSize pageAtStart isShape pageNamed pageNamedBefore pagesOfHint pagesNamed isFree lowestFree pagesUsed pagesUnhinted pagesNeeded otherLabel isLaidOut isLabel isOpen isValid walk behind starts stop isInUse isStart isReference landing found isBlank refsGood isUsedSound isPageSound isFillSound isSound calls.refused inside calls.accepted start withObject allocate lookUp load mayStore store hintPage hintPages takePage withRoom top put copyObject forward forwardRoots sweepReference sweepReferences sweepPage sweepQueue freedLabels freedHeap planOf begun afterHints afterRoots afterSweep collection unhinted hasRoom refusalOfCollect refusedCollect acceptedCollect collect decode before refused accepted passed blank perform step digits number line noted ending rest run transcript input output looked told
+unfolding from block each has count sum first headerOf sizeOf refsOf isHeader isPageSize pageAtStart isShape pageNamed pageNamedBefore pagesOfHint pagesNamed isFree lowestFree pagesUsed pagesNeeded otherLabel isLaidOut isLabel isOpen isValid walk behind starts stop wordsOn isInUse isStart isReference landing found isBlank refsGood isUsedSound isPageSound isFillSound isSound calls.refused inside calls.accepted start withObject allocate lookUp load mayStore store hintPage hintPages takePage withRoom top put copyObject forward forwardRoots sweepReference sweepReferences sweepPage sweepQueue freedLabels freedHeap planOf begun afterHints afterRoots afterSweep collection isUnhinted wordsUnhinted hasRoom refusalOfCollect refusedCollect acceptedCollect collect decode before refused accepted passed blank perform step digits number line noted ending rest run transcript input output looked told
 examples = record {
   document01 = refl;
   look-up = refl;

@@ -2,24 +2,21 @@
 -- collect pass, its run is safe, what it leaves is sound, it finds its pages, and it is faithful.
 use mathlib.Core.Path.{_≡_, sym, ap, _∙_, subst}
 use mathlib.Core.List.{List}
-use Prim.Native.Nat.{ℕ, _≤_}
+use Prim.Native.Nat.{ℕ}
 use native.Mathlib.Decide.{ℕ-discrete}
-use lib.ListN.{length}
 use Rattle.rules.specs.Lent.{Lent}
 use Rattle.rules.specs.Sound.{Sound}
 use Rattle.rules.specs.Collection.{logged, plainly, Collection, planOf, collection}
 use Rattle.rules.specs.Collect.{CollectOutcome, refusalOfCollect, acceptedCollect, refusedCollect, collect}
 use Rattle.rules.specs.Demands.{Faithful, FindsPages}
 use Rattle.laws.specs.Safe.{SafeRun}
-use Rattle.theory.specs.Packing.{pagesForWords}
 use Rattle.theory.specs.Accept.{Accepted, accepted}
 use Rattle.laws.specs.Collect.{collect-accepts, collect-refuses}
-use Rattle.theory.specs.SoundHeap.{wordsUnhinted}
 use Rattle.theory.specs.Plainly.{collection-plainly, run-plainly}
 use Rattle.theory.specs.Run.{run-safe}
 use Rattle.theory.specs.After.{after-sound}
 use Rattle.theory.specs.Pairing.{outcome, Pairs, faithful}
-use Rattle.theory.specs.Taken.{finds, taken-words}
+use Rattle.theory.specs.Taken.{finds}
 
 module _ (m : Lent) (roots hints : List ℕ) (e : refusalOfCollect m roots hints ≡ 0) where
   A : Accepted m roots hints
@@ -44,11 +41,6 @@ module _ (m : Lent) (roots hints : List ℕ) (e : refusalOfCollect m roots hints
   pub collect-finds : FindsPages m roots hints (collection plainly m roots hints .taken)
   unfolding collection
   collect-finds = subst (FindsPages m roots hints) (sym taken-same) (finds m roots hints A)
-
-  -- the pages taken, by the words in objects on pages in use that no hint names
-  pub collect-few : length (collection plainly m roots hints .taken) ≤ pagesForWords (m .rec .page) (wordsUnhinted m hints)
-  unfolding collection
-  collect-few = rw taken-same (taken-words m roots hints A)
 
   -- "The objects afterwards pair one to one with those that were on hinted pages or could be reached from them or the root cells"
   pub collect-faithful : (Pairs : ℕ → ℕ → Type 0) × Faithful m roots hints (collect m roots hints) Pairs

@@ -6,30 +6,31 @@ use Prim.Native.Nat.{ℕ, _+_, _*_, _-_, _/_, _≤_, _<_}
 use native.Mathlib.Nat.{mul-le-mul-right}
 use native.Mathlib.Omega.{arith}
 use lib.ListN.{length}
-use Rattle.rules.specs.Ranges.{at, block}
+use Rattle.rules.specs.Ranges.{at, block, sum}
 use Rattle.rules.specs.Header.{refsOf}
-use Rattle.rules.specs.Pages.{pagesNamed, pagesUnhinted, otherLabel}
+use Rattle.rules.specs.Pages.{pagesNamed, pagesUsed, pagesNeeded, otherLabel}
 use Rattle.rules.specs.Lent.{Lent}
 use Rattle.rules.specs.Walk.{starts, stop}
 use Rattle.rules.specs.Sound.{InUse, IsObject, Sound}
 use Rattle.rules.specs.Collection.{logged, Plan, Pages, State, planOf, begun, afterHints}
-use Rattle.rules.specs.Collect.{unhinted}
+use Rattle.rules.specs.Collect.{isUnhinted}
 use Rattle.rules.specs.Demands.{Hinted}
-use Rattle.laws.specs.Lists.{block-mem, count-le}
+use Rattle.laws.specs.Lists.{block-mem}
 use Rattle.laws.specs.Pages.{heap-fits}
 use Rattle.laws.specs.Walk.{size, page-steps, met-next}
 use Rattle.laws.specs.LookUp.{placed}
 use Rattle.laws.specs.Safe.{SafeHints}
-use Rattle.laws.specs.FreePages.{block-length, not-free, freePages, free-same}
-use Rattle.theory.specs.Weights.{weigh, gather-mem}
-use Rattle.theory.specs.Packing.{packed-none, pagesForWords, for-pages}
+use Rattle.laws.specs.FreePages.{not-free, freePages, used-and-free, free-same}
+use Rattle.laws.specs.Room.{words-used}
+use Rattle.theory.specs.Sums.{gather-mem}
+use Rattle.theory.specs.Packing.{packed-none}
 use Rattle.theory.specs.World.{World, Kept, stayed, went, Place, home, away, Inv}
 use Rattle.theory.specs.Packs.{froms, Packs}
 use Rattle.theory.specs.Tile.{Next, another, blank, Tiled}
 use Rattle.theory.specs.Good.{Good}
 use Rattle.theory.specs.Hints.{Unhinted, Hinting, begun-hinting, hint-pages, pages-get, free-as-before, hints-safe}
 use Rattle.theory.specs.Accept.{Accepted}
-use Rattle.theory.specs.SoundHeap.{layout, other≢0, other≢label, in-use, met-of, object-fits, object-nonzero, first-object, objectsUnhinted, isUnhinted, wordsUnhinted, words-unhinted, unhinted-is}
+use Rattle.theory.specs.SoundHeap.{layout, other≢0, other≢label, in-use, met-of, object-fits, object-nonzero, first-object, objectsUnhinted, words-are, unhinted-is}
 use Rattle.laws.specs.Objects.{met-object, met-page, objects-apart, page-pos}
 use Rattle.laws.specs.Valid.{label-pos}
 
@@ -95,17 +96,15 @@ module _ (m : Lent) (roots hints : List ℕ) (A : Accepted m roots hints) where
       (λ q. other≢label m S (sym (hinted-new (x / m .rec .page) (record { inUse = ob .inUse; named = q })) ∙ e)))
       (ob .met)
 
-  -- they are on k' pages at most
-  pub few-unhinted : wordsUnhinted m hints ≤ length (m .heap)
-  unfolding unhinted pagesUnhinted
-  few-unhinted =
-      let n : unhinted m hints ≤ length (block 1 (m .rec .pages)) = count-le _ (block 1 (m .rec .pages)) in
-      let c : unhinted m hints ≤ m .rec .pages = omega (arith, block-length 1 (m .rec .pages)) in
-      let q : unhinted m hints * m .rec .page ≤ m .rec .pages * m .rec .page = mul-le-mul-right (m .rec .page) c in
-      omega (arith, words-unhinted m hints, layout m S .heap)
+  -- the heap holds them
+  pub few-words : sum (size (m .heap)) (objectsUnhinted m hints) ≤ length (m .heap)
+  few-words =
+      let c : pagesUsed (m .labels) 1 (m .rec .pages) ≤ m .rec .pages = omega (arith, used-and-free (m .labels) 1 (m .rec .pages)) in
+      let q : pagesUsed (m .labels) 1 (m .rec .pages) * m .rec .page ≤ m .rec .pages * m .rec .page = mul-le-mul-right (m .rec .page) c in
+      omega (arith, words-are m hints, words-used m hints, layout m S .heap)
 
   unfoldable pub world : World
-  unfolding planOf wordsUnhinted
+  unfolding planOf
   world = record {
     plan = planOf m logged;
     heap = m .heap;
@@ -132,7 +131,7 @@ module _ (m : Lent) (roots hints : List ℕ) (A : Accepted m roots hints) where
     references = references;
     olds = objectsUnhinted m hints;
     all = old-object;
-    most = few-unhinted;
+    most = few-words;
     hinted = length (p .queue);
   }
     where
@@ -208,7 +207,7 @@ module _ (m : Lent) (roots hints : List ℕ) (A : Accepted m roots hints) where
               (λ z. absurd (label-pos m (S .valid) (sym (ob .inUse .label) ∙ ap (at (m .labels)) (z ∙ H .copy) ∙ S .zero)))
 
   first-packs : Packs world s
-  unfolding world planOf begun froms weigh wordsUnhinted
+  unfolding world planOf begun froms sum
   first-packs = record {
     taken = 0;
     joined = omega arith;
@@ -220,11 +219,11 @@ module _ (m : Lent) (roots hints : List ℕ) (A : Accepted m roots hints) where
     room = room;
   }
     where
-      room : pagesForWords (m .rec .page) (weigh (size (m .heap)) (objectsUnhinted m hints)) ≤ freePages (p .labels) 1 (m .rec .pages)
+      room : pagesNeeded (m .rec .page) (sum (size (m .heap)) (objectsUnhinted m hints)) ≤ freePages (p .labels) 1 (m .rec .pages)
       room =
           let same : freePages (p .labels) 1 (m .rec .pages) ≡ freePages (m .labels) 1 (m .rec .pages) =
           free-same (p .labels) (m .labels) 1 (m .rec .pages) (free-as-before k (begun m) U named p H) in
-          omega (arith, A .room, for-pages (m .rec .page) (wordsUnhinted m hints) (unhinted m hints) (words-unhinted m hints))
+          rw (words-are m hints) (omega (arith, A .room))
 
   pub first-good : Good world s
   unfolding world planOf begun

@@ -1,5 +1,5 @@
 -- numbers, lists, counts
-pub mod Weights
+pub mod Sums
 pub mod Packing
 pub mod Queue
 -- the invariant, and each step that keeps it

@@ -10,12 +10,13 @@ use native.Mathlib.Omega.{arith}
 use lib.Dec.{leb}
 use lib.ListN.{length, length-append}
 use borrow.Author.Tests.{leb-true, leb-false}
-use Rattle.rules.specs.Ranges.{at}
+use Rattle.rules.specs.Ranges.{at, sum}
+use Rattle.rules.specs.Pages.{pagesNeeded}
 use Rattle.rules.specs.Collection.{Move, State, put, takePage, withRoom}
 use Rattle.laws.specs.Walk.{size}
 use Rattle.laws.specs.FreePages.{freePages, lowest, free-less}
-use Rattle.theory.specs.Weights.{weigh, weigh-snoc, Distinct, distinct-snoc, sub-weigh}
-use Rattle.theory.specs.Packing.{Packed, packed-same, packed-new, packed-enough, pagesForWords}
+use Rattle.theory.specs.Sums.{sum-snoc, Distinct, distinct-snoc, sub-sum}
+use Rattle.theory.specs.Packing.{Packed, packed-same, packed-new, packed-enough}
 use Rattle.theory.specs.World.{sizeAt, World, NotGone, Inv}
 use Rattle.theory.specs.Places.{some-words, old-before}
 use Rattle.theory.specs.Put.{put-moves}
@@ -44,10 +45,10 @@ mem-froms (k ∷ ms) {x} h = go (λ q. mem-froms ms q) (List·Memᴰ·cases-cons
 
 -- the words copied, and those that may have to be
 abbrev pub wordsOf : World → State → ℕ
-wordsOf W s = weigh (size (W .heap)) (froms (s .moves))
+wordsOf W s = sum (size (W .heap)) (froms (s .moves))
 
 abbrev pub wordsOld : World → ℕ
-wordsOld W = weigh (size (W .heap)) (W .olds)
+wordsOld W = sum (size (W .heap)) (W .olds)
 
 -- free pages of the block
 abbrev pub freeIn : World → List ℕ → ℕ
@@ -62,7 +63,7 @@ pub record Packs (W : World) (s : State) : Type 0 where
   pub words : s .words ≡ wordsOf W s
   pub objects : s .objects ≤ s .words
   -- there is room for all
-  pub room : pagesForWords (W .plan .page) (wordsOld W) ≤ freeIn W (W .labels)
+  pub room : pagesNeeded (W .plan .page) (wordsOld W) ≤ freeIn W (W .labels)
 
 -- ---- how many
 
@@ -71,10 +72,10 @@ module _ (W : World) (s : State) (I : Inv W s) (K : Packs W s) where
   copied-old z a = let (m, k, e) = mem-froms (s .moves) a in Memᴰ·cast e (W .all (m .from) (I .moved m k .object) (I .moved m k .old))
 
   pub words-old : wordsOf W s ≤ wordsOld W
-  words-old = sub-weigh (size (W .heap)) (froms (s .moves)) (W .olds) (K .distinct) copied-old
+  words-old = sub-sum (size (W .heap)) (froms (s .moves)) (W .olds) (K .distinct) copied-old
 
   -- "at most .. pages are taken", by words
-  pub packs-few : 0 < s .pages .fill → K .taken ≤ pagesForWords (W .plan .page) (wordsOld W)
+  pub packs-few : 0 < s .pages .fill → K .taken ≤ pagesNeeded (W .plan .page) (wordsOld W)
   packs-few fp = packed-enough (wordsOld W) words-old fp (K .packed)
 
   module _ (x : ℕ) (D : Due W s x) where
@@ -91,8 +92,8 @@ module _ (W : World) (s : State) (I : Inv W s) (K : Packs W s) where
     pub words-left : wordsOf W s + sizeAt W x ≤ wordsOld W
     words-left =
         let l : List ℕ = froms (s .moves) ++ (x ∷ []) in
-        let h : weigh (size (W .heap)) l ≤ wordsOld W = sub-weigh (size (W .heap)) l (W .olds) (distinct-snoc (froms (s .moves)) x (K .distinct) not-copied) sub in
-        omega (arith, weigh-snoc (size (W .heap)) (froms (s .moves)) x)
+        let h : sum (size (W .heap)) l ≤ wordsOld W = sub-sum (size (W .heap)) l (W .olds) (distinct-snoc (froms (s .moves)) x (K .distinct) not-copied) sub in
+        omega (arith, sum-snoc (size (W .heap)) (froms (s .moves)) x)
       where
         sub : (z : ℕ) → List·Memᴰ z (froms (s .moves) ++ (x ∷ [])) → List·Memᴰ z (W .olds)
         sub z h = go (List·Memᴰ·append-cases (froms (s .moves)) h)
@@ -104,7 +105,7 @@ module _ (W : World) (s : State) (I : Inv W s) (K : Packs W s) where
     -- words that do not fit find a free page
     pub some-free : W .plan .page < s .pages .fill + sizeAt W x → 0 < freeIn W (s .pages .labels)
     some-free lt =
-        let b : K .taken + 1 ≤ pagesForWords (W .plan .page) (wordsOld W) =
+        let b : K .taken + 1 ≤ pagesNeeded (W .plan .page) (wordsOld W) =
         packed-enough (wordsOld W) words-left (some-words W x (D .object)) (packed-new (sizeAt W x) lt (K .packed)) in
         omega (arith, K .room, K .left)
 
@@ -119,8 +120,8 @@ module _ (W : World) (s : State) (I : Inv W s) (K : Packs W s) where
       froms-are : froms l ≡ froms (s .moves) ++ (x ∷ [])
       froms-are = ap froms is ∙ froms-snoc (s .moves) (record { from = x; to = y })
 
-      weight : weigh (size (W .heap)) (froms l) ≡ wordsOf W s + sizeAt W x
-      weight = ap (weigh (size (W .heap))) froms-are ∙ weigh-snoc (size (W .heap)) (froms (s .moves)) x
+      weight : sum (size (W .heap)) (froms l) ≡ wordsOf W s + sizeAt W x
+      weight = ap (sum (size (W .heap))) froms-are ∙ sum-snoc (size (W .heap)) (froms (s .moves)) x
 
       distinct′ : Distinct (froms l)
       distinct′ = subst Distinct (sym froms-are) (distinct-snoc (froms (s .moves)) x (K .distinct) (not-copied x D))

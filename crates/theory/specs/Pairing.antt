@@ -16,7 +16,7 @@ use Rattle.rules.specs.Collect.{CollectOutcome, acceptedCollect}
 use Rattle.rules.specs.Demands.{Hinted, Reached, onHinted, byRoot, byReference, Becomes, Faithful}
 use Rattle.laws.specs.Walk.{size}
 use Rattle.laws.specs.Pages.{first-on-page}
-use Rattle.theory.specs.Weights.{mem-at}
+use Rattle.theory.specs.Sums.{mem-at}
 use Rattle.theory.specs.World.{becomes-map, World, Live, root, stay, ref, Stays, Kept, stayed, went, Place, home, away}
 use Rattle.theory.specs.Places.{SameOrApart, hinted-label, kept-obj, kept-apart}
 use Rattle.theory.specs.Good.{kept-reach}

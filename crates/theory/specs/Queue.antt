@@ -10,7 +10,7 @@ use lib.ListN.{length, set, length-set, length-append, List·getD-append}
 use lib.Seq.{getD-set-same, getD-set-other, getD-append-seam}
 use Rattle.rules.specs.Ranges.{at}
 use Rattle.laws.specs.Words.{in-range}
-use Rattle.theory.specs.Weights.{mem-at, places-distinct, below-length}
+use Rattle.theory.specs.Sums.{mem-at, places-distinct, below-length}
 
 pub record Queued (new : ℕ) (labels queue : List ℕ) : Type 0 where
   pub all : (g : ℕ) → at labels g ≡ new → (j : ℕ) × (j < length queue) × (at queue j ≡ g)

@@ -11,7 +11,7 @@ use Rattle.rules.specs.Lent.{Lent}
 use Rattle.rules.specs.Sound.{IsObject}
 use Rattle.rules.specs.Collection.{logged, State, Rooted, planOf, afterRoots, afterSweep}
 use Rattle.laws.specs.Safe.{SafeRoots, SafeQueue, SafeRun}
-use Rattle.theory.specs.Weights.{at-mem}
+use Rattle.theory.specs.Sums.{at-mem}
 use Rattle.theory.specs.World.{World}
 use Rattle.theory.specs.Packs.{words-old}
 use Rattle.theory.specs.SweepQueue.{RootsDone, AllDone, forward-roots, sweep-queue, queue-length}

@@ -1,26 +1,25 @@
--- What soundness tells of objects, pages and labels, as a collection uses it; and the words that a collection may have to copy.
+-- What soundness tells of objects, pages and labels, as a collection uses it; and the objects that a collection may have to copy.
 use mathlib.Core.Path.{_≡_, refl, sym, ap, _∙_}
 use mathlib.Core.Logic.{_≢_, _⊎_, inl, inr}
-use mathlib.Core.Bool.{Bool, true, false, not, _&&_}
+use mathlib.Core.Bool.{Bool, true, false, not}
 use mathlib.Core.List.{List, List·Memᴰ}
-use Prim.Native.Nat.{ℕ, _+_, _*_, _/_, _%_, _≤_, zero-le}
+use Prim.Native.Nat.{ℕ, _+_, _*_, _/_, _%_, _≤_}
 use native.Mathlib.Nat.{zero-div}
 use native.Mathlib.Omega.{arith}
-use Rattle.rules.specs.Ranges.{at, block, has}
-use Rattle.rules.specs.Pages.{pagesNamed, isFree, pagesUnhinted, otherLabel}
+use Rattle.rules.specs.Ranges.{at, block, has, sum}
+use Rattle.rules.specs.Pages.{pagesNamed, isFree, otherLabel}
 use Rattle.rules.specs.Lent.{Lent}
-use Rattle.rules.specs.Walk.{starts}
+use Rattle.rules.specs.Walk.{starts, wordsOn}
 use Rattle.rules.specs.Sound.{InUse, IsObject, Sound}
-use Rattle.rules.specs.Collect.{unhinted}
+use Rattle.rules.specs.Collect.{isUnhinted, wordsUnhinted}
 use Rattle.laws.specs.Lists.{has-mem}
 use Rattle.laws.specs.Pages.{split-page}
 use Rattle.laws.specs.Valid.{Layout, valid-layout, label-pos}
-use Rattle.laws.specs.Walk.{size, page-steps, Met, met, met-first, Steps, stops, step}
+use Rattle.laws.specs.Walk.{size, page-steps, Met, met, met-first}
 use Rattle.laws.specs.LookUp.{placed}
 use Rattle.laws.specs.Words.{in-range}
-use Rattle.theory.specs.Weights.{weigh, gather, gather-weigh}
+use Rattle.theory.specs.Sums.{gather, gather-sum}
 use Rattle.laws.specs.Objects.{page-pos, met-object}
-use Rattle.laws.specs.Headers.{Header, header-says}
 
 module _ (m : Lent) (S : Sound m) where
   pub layout : Layout m (m .rec .page) (m .rec .pages)
@@ -72,28 +71,15 @@ module _ (m : Lent) (S : Sound m) where
   pub first-object : (g : ℕ) → InUse m g → IsObject m (g * m .rec .page)
   first-object g u = let (a, mem) = S .some g u in met-object m (page-pos m (S .valid)) g (g * m .rec .page) u (met-first (m .heap) (page-steps m g) mem)
 
--- ---- the words in objects on pages in use that no hint names
-
-unfoldable pub isUnhinted : Lent → List ℕ → ℕ → Bool
-isUnhinted m hints g = not (isFree (m .labels) g) && not (has g (pagesNamed (m .rec .page) 1 (m .rec .pages) hints))
+-- ---- the objects on pages in use that no hint names
 
 unfoldable pub objectsUnhinted : Lent → List ℕ → List ℕ
 objectsUnhinted m hints = gather (isUnhinted m hints) (starts m) (block 1 (m .rec .pages))
 
-unfoldable pub wordsUnhinted : Lent → List ℕ → ℕ
-wordsUnhinted m hints = weigh (size (m .heap)) (objectsUnhinted m hints)
-
-pub met-weigh : (h : List ℕ) {a room z : ℕ} {l : List ℕ} → Steps h a room l z → weigh (size h) l ≤ room
-unfolding weigh
-met-weigh h (stops e) = zero-le
-met-weigh h (step {a = a} {room = room} e r) = let H : Header (at h a) room = header-says _ _ e in omega (arith, H .fits, met-weigh h r)
-
--- they are on k' pages
-pub words-unhinted : (m : Lent) (hints : List ℕ) → wordsUnhinted m hints ≤ unhinted m hints * m .rec .page
-unfolding wordsUnhinted objectsUnhinted isUnhinted unhinted pagesUnhinted
-words-unhinted m hints =
-    gather-weigh (λ g. not (isFree (m .labels) g) && not (has g (pagesNamed (m .rec .page) 1 (m .rec .pages) hints))) (starts m)
-    (size (m .heap)) (m .rec .page) (λ g. met-weigh (m .heap) (page-steps m g)) (block 1 (m .rec .pages))
+-- their words are W
+pub words-are : (m : Lent) (hints : List ℕ) → sum (size (m .heap)) (objectsUnhinted m hints) ≡ wordsUnhinted m hints
+unfolding objectsUnhinted wordsUnhinted wordsOn
+words-are m hints = gather-sum (isUnhinted m hints) (starts m) (size (m .heap)) (block 1 (m .rec .pages))
 
 pub unhinted-is : (m : Lent) (hints : List ℕ) (g : ℕ) → isFree (m .labels) g ≡ false → (List·Memᴰ g (pagesNamed (m .rec .page) 1 (m .rec .pages) hints) → ⊥)
     → isUnhinted m hints g ≡ true

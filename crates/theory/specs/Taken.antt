@@ -13,15 +13,14 @@ use Rattle.rules.specs.Pages.{otherLabel, pagesNeeded}
 use Rattle.rules.specs.Lent.{Lent}
 use Rattle.rules.specs.Sound.{Sound}
 use Rattle.rules.specs.Collection.{State, planOf, collection}
-use Rattle.rules.specs.Collect.{unhinted}
+use Rattle.rules.specs.Collect.{wordsUnhinted}
 use Rattle.rules.specs.Demands.{FindsPages}
-use Rattle.theory.specs.Weights.{mem-at}
-use Rattle.theory.specs.Packing.{pagesForWords, for-pages}
+use Rattle.theory.specs.Sums.{mem-at}
 use Rattle.theory.specs.World.{World}
 use Rattle.theory.specs.Packs.{packs-few}
 use Rattle.theory.specs.Good.{Grow, grow-trans}
 use Rattle.theory.specs.Accept.{Accepted}
-use Rattle.theory.specs.SoundHeap.{other≢label, wordsUnhinted, words-unhinted}
+use Rattle.theory.specs.SoundHeap.{other≢label, words-are}
 use Rattle.laws.specs.Valid.{label-pos}
 use Rattle.theory.specs.FirstState.{p as pagesOf, s as firstOf, H, world, used-kind}
 use Rattle.theory.specs.Run.{W as worldOf, r as rootedOf, t as sweptOf, roots-done, all-done}
@@ -86,15 +85,11 @@ module _ (m : Lent) (roots hints : List ℕ) (A : Accepted m roots hints) where
       go (inl e) = e
       go (inr e) = absurd (used (used-kind m roots hints A g e))
 
-  -- by words, and so by pages
-  pub taken-words : length taken ≤ pagesForWords (m .rec .page) (wordsUnhinted m hints)
-  unfolding world planOf wordsUnhinted
+  taken-words : length taken ≤ pagesNeeded (m .rec .page) (wordsUnhinted m hints)
+  unfolding world planOf
   taken-words =
       let G = all-done m roots hints A .good in
-      omega (arith, length-drop (length before) queue, G .packs .joined, packs-few W s (G .inv) (G .packs) (G .filled))
-
-  taken-pages : length taken ≤ pagesNeeded (unhinted m hints)
-  taken-pages = le-trans taken-words (for-pages (m .rec .page) (wordsUnhinted m hints) (unhinted m hints) (words-unhinted m hints))
+      rw (← words-are m hints) (omega (arith, length-drop (length before) queue, G .packs .joined, packs-few W s (G .inv) (G .packs) (G .filled)))
 
   pub finds : FindsPages m roots hints taken
   unfolding collection planOf
@@ -104,7 +99,7 @@ module _ (m : Lent) (roots hints : List ℕ) (A : Accepted m roots hints) where
         let z : length before + i ≡ length before + j =
         all-done m roots hints A .good .lined .queued .once (length before + i) (length before + j) (place-inside i hi) (place-inside j hj) (sym (place i) ∙ e ∙ place j) in
         omega arith;
-    few = taken-pages;
+    few = taken-words;
   }
     where
       free : (g j : ℕ) → j < length taken → at taken j ≡ g → (1 ≤ g) × (g < m .rec .pages) × (at (m .labels) g ≡ 0)

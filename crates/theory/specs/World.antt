@@ -7,12 +7,11 @@ use mathlib.Core.Bool.{true}
 use mathlib.Core.List.{List, List·Memᴰ}
 use Prim.Native.Nat.{ℕ, _+_, _*_, _/_, _%_, _≤_, _<_}
 use lib.ListN.{length}
-use Rattle.rules.specs.Ranges.{at}
+use Rattle.rules.specs.Ranges.{at, sum}
 use Rattle.rules.specs.Header.{refsOf}
 use Rattle.rules.specs.Collection.{Move, Plan, State, top}
 use Rattle.rules.specs.Demands.{Becomes}
 use Rattle.laws.specs.Walk.{size}
-use Rattle.theory.specs.Weights.{weigh}
 
 -- what is reached: the roots, the objects that stay, and what those that are reached refer to
 pub data Live (h : List ℕ) (Obj Root Stay : ℕ → Type 0) : ℕ → Type 0 where
@@ -55,7 +54,7 @@ pub record World : Type 1 where
   -- the objects that may have to be copied, all of those on pages that no hint names; and how many pages were hinted
   pub olds : List ℕ
   pub all : (x : ℕ) → Obj x → at labels (x / plan .page) ≡ plan .old → List·Memᴰ x olds
-  pub most : weigh (size heap) olds ≤ length heap
+  pub most : sum (size heap) olds ≤ length heap
   pub hinted : ℕ
 
 -- the page of an address; the label of its page as the hints left it, and now

@@ -1,35 +1,31 @@
--- What the members of a list weigh together: those of a list without repeats weigh no more than those of a list that has them
--- all. For words in objects; and, each weighing 1, for how many pages a queue can hold.
+-- What the members of a list add up to: those of a list without repeats to no more than those of a list that has them all. For
+-- words in objects; and, each counting 1, for how many pages a queue can hold.
 use mathlib.Core.Path.{_≡_, refl, sym, ap, _∙_}
 use mathlib.Core.Logic.{_≢_, _⊎_, inl, inr}
 use mathlib.Core.Bool.{Bool, true, false, cond}
 use mathlib.Core.List.{List, [], _∷_, _++_, List·Memᴰ, List·Memᴰ·head, List·Memᴰ·tail, List·Memᴰ·cases-cons, List·Memᴰ·append-cases, List·Memᴰ·eq-of-singleton, List·Memᴰ·not-nil, Memᴰ·cast, Memᴰ·append-left, Memᴰ·append-right}
-use Prim.Native.Nat.{ℕ, zero, suc, _+_, _*_, _≤_, _<_, zero-le}
+use Prim.Native.Nat.{ℕ, zero, suc, _+_, _≤_, _<_, zero-le}
 use native.Mathlib.Omega.{arith}
 use lib.ListN.{length}
-use Rattle.rules.specs.Ranges.{at, block, count}
+use Rattle.rules.specs.Ranges.{at, block, sum}
 use Rattle.laws.specs.Lists.{block-mem}
 use Rattle.laws.specs.FreePages.{block-length}
 
-unfoldable pub weigh : (ℕ → ℕ) → List ℕ → ℕ
-weigh f [] = 0
-weigh f (x ∷ xs) = f x + weigh f xs
+sum-append : (f : ℕ → ℕ) (xs ys : List ℕ) → sum f (xs ++ ys) ≡ sum f xs + sum f ys
+unfolding sum
+sum-append f [] ys = omega arith
+sum-append f (x ∷ xs) ys = omega (arith, sum-append f xs ys)
 
-pub weigh-append : (f : ℕ → ℕ) (xs ys : List ℕ) → weigh f (xs ++ ys) ≡ weigh f xs + weigh f ys
-unfolding weigh
-weigh-append f [] ys = omega arith
-weigh-append f (x ∷ xs) ys = omega (arith, weigh-append f xs ys)
+pub sum-snoc : (f : ℕ → ℕ) (xs : List ℕ) (x : ℕ) → sum f (xs ++ (x ∷ [])) ≡ sum f xs + f x
+unfolding sum
+sum-snoc f [] x = omega arith
+sum-snoc f (y ∷ xs) x = omega (arith, sum-snoc f xs x)
 
-pub weigh-snoc : (f : ℕ → ℕ) (xs : List ℕ) (x : ℕ) → weigh f (xs ++ (x ∷ [])) ≡ weigh f xs + f x
-unfolding weigh
-weigh-snoc f [] x = omega arith
-weigh-snoc f (y ∷ xs) x = omega (arith, weigh-snoc f xs x)
-
--- each weighing 1
-pub weigh-length : (xs : List ℕ) → weigh (λ x. 1) xs ≡ length xs
-unfolding weigh
-weigh-length [] = refl
-weigh-length (x ∷ xs) = omega (arith, weigh-length xs)
+-- each counting 1
+pub sum-length : (xs : List ℕ) → sum (λ x. 1) xs ≡ length xs
+unfolding sum
+sum-length [] = refl
+sum-length (x ∷ xs) = omega (arith, sum-length xs)
 
 -- ---- without repeats
 
@@ -53,10 +49,10 @@ without : {x : ℕ} {ys : List ℕ} → List·Memᴰ x ys → List ℕ
 without (List·Memᴰ·head {xs = xs} e) = xs
 without (List·Memᴰ·tail {x = y} m) = y ∷ without m
 
-without-weigh : (f : ℕ → ℕ) {x : ℕ} {ys : List ℕ} (m : List·Memᴰ x ys) → f x + weigh f (without m) ≡ weigh f ys
-unfolding without weigh
-without-weigh f (List·Memᴰ·head {xs = xs} e) = ap (λ (k : ℕ). f k + weigh f xs) e
-without-weigh f (List·Memᴰ·tail {x = y} m) = omega (arith, without-weigh f m)
+without-sum : (f : ℕ → ℕ) {x : ℕ} {ys : List ℕ} (m : List·Memᴰ x ys) → f x + sum f (without m) ≡ sum f ys
+unfolding without sum
+without-sum f (List·Memᴰ·head {xs = xs} e) = ap (λ (k : ℕ). f k + sum f xs) e
+without-sum f (List·Memᴰ·tail {x = y} m) = omega (arith, without-sum f m)
 
 without-mem : {x z : ℕ} {ys : List ℕ} (m : List·Memᴰ x ys) → List·Memᴰ z ys → z ≢ x → List·Memᴰ z (without m)
 unfolding without
@@ -71,14 +67,14 @@ without-mem {x} {z} (List·Memᴰ·tail {x = y} {xs = ys} m) k ne = go (λ q. wi
     go r (inl q) = List·Memᴰ·head q
     go r (inr q) = List·Memᴰ·tail (r q)
 
-pub sub-weigh : (f : ℕ → ℕ) (xs ys : List ℕ) → Distinct xs → ((z : ℕ) → List·Memᴰ z xs → List·Memᴰ z ys) → weigh f xs ≤ weigh f ys
-unfolding weigh
-sub-weigh f [] ys d sub = zero-le
-sub-weigh f (x ∷ xs) ys d sub =
+pub sub-sum : (f : ℕ → ℕ) (xs ys : List ℕ) → Distinct xs → ((z : ℕ) → List·Memᴰ z xs → List·Memᴰ z ys) → sum f xs ≤ sum f ys
+unfolding sum
+sub-sum f [] ys d sub = zero-le
+sub-sum f (x ∷ xs) ys d sub =
     let m : List·Memᴰ x ys = sub x (List·Memᴰ·head refl) in
     let ne : (z : ℕ) → List·Memᴰ z xs → z ≢ x = λ z k e. d .0 (Memᴰ·cast (sym e) k) in
-    let r : weigh f xs ≤ weigh f (without m) = sub-weigh f xs (without m) (d .1) (λ z k. without-mem m (sub z (List·Memᴰ·tail k)) (ne z k)) in
-    omega (arith, without-weigh f m)
+    let r : sum f xs ≤ sum f (without m) = sub-sum f xs (without m) (d .1) (λ z k. without-mem m (sub z (List·Memᴰ·tail k)) (ne z k)) in
+    omega (arith, without-sum f m)
 
 -- ---- members by their places
 
@@ -105,8 +101,8 @@ places-distinct (x ∷ l) f = (
 -- distinct numbers below n: there are no more than n
 pub below-length : (l : List ℕ) (n : ℕ) → Distinct l → ((x : ℕ) → List·Memᴰ x l → x < n) → length l ≤ n
 below-length l n d h =
-    let q : weigh (λ x. 1) l ≤ weigh (λ x. 1) (block 0 n) = sub-weigh (λ x. 1) l (block 0 n) d (λ x m. block-mem 0 n x (omega arith) (h x m)) in
-    omega (arith, weigh-length l, weigh-length (block 0 n), block-length 0 n)
+    let q : sum (λ x. 1) l ≤ sum (λ x. 1) (block 0 n) = sub-sum (λ x. 1) l (block 0 n) d (λ x m. block-mem 0 n x (omega arith) (h x m)) in
+    omega (arith, sum-length l, sum-length (block 0 n), block-length 0 n)
 
 -- ---- lists gathered: of those members of gs that pass the test, the lists one after another
 
@@ -127,12 +123,15 @@ module _ (f : ℕ → Bool) (lists : ℕ → List ℕ) where
       go ih (inl q) = Memᴰ·append-left (gather f lists gs) (here q)
       go ih (inr q) = Memᴰ·append-right (cond (f j) (lists j) []) (ih q)
 
-  -- if no list weighs more than P
-  pub gather-weigh : (w : ℕ → ℕ) (P : ℕ) → ((g : ℕ) → weigh w (lists g) ≤ P) → (gs : List ℕ) → weigh w (gather f lists gs) ≤ count f gs * P
-  unfolding gather count weigh
-  gather-weigh w P h [] = omega arith
-  gather-weigh w P h (g ∷ gs) = rw weigh-append (go (gather-weigh w P h gs) (f g))
+  -- list by list
+  pub gather-sum : (e : ℕ → ℕ) (gs : List ℕ) → sum e (gather f lists gs) ≡ sum (λ g. cond (f g) (sum e (lists g)) 0) gs
+  unfolding gather sum
+  gather-sum e [] = refl
+  gather-sum e (g ∷ gs) = rw (sum-append, gather-sum e gs) (go (f g))
     where
-      go : weigh w (gather f lists gs) ≤ count f gs * P → (b : Bool) → weigh w (cond b (lists g) []) + weigh w (gather f lists gs) ≤ (cond b 1 0 + count f gs) * P
-      go ih true = omega (arith, h g)
-      go ih false = omega arith
+      rest : ℕ
+      rest = sum (λ g. cond (f g) (sum e (lists g)) 0) gs
+
+      go : (b : Bool) → sum e (cond b (lists g) []) + rest ≡ cond b (sum e (lists g)) 0 + rest
+      go true = refl
+      go false = refl
