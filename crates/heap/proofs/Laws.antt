@@ -26,10 +26,9 @@ use Rattle.rules.specs.Header.{headerOf, sizeOf, isHeader}
 use Rattle.rules.specs.Lent.{Lent, lent, opening, isValid}
 use Rattle.rules.specs.Walk.{behind, starts, stop, found}
 use Rattle.rules.specs.Sound.{isBlank, isFillSound, refsGood, isUsedSound, Valid}
-use Rattle.laws.specs.Headers.{header-says}
 use Rattle.laws.specs.Valid.{valid-laid}
 use Rattle.laws.specs.LookUp.{placed, found-object}
-use Rattle.laws.specs.Walk.{size, objects, objects-end, objects-step, starts-are, behind-nil, behind-cons, page-steps, steps-some, steps-none, steps-upto}
+use Rattle.laws.specs.Walk.{size, objects, objects-end, objects-step, Onward, onward-on, onward-ends, starts-are, page-steps, steps-some, steps-none, steps-upto}
 
 -- ---- any page's bounds are places: of numbers of 32 bits
 
@@ -87,9 +86,7 @@ found-within m a w v f =
 -- ---- a page in use, as the loop over its headers meets it: at address a, from its first word `base` to its end e
 
 pub record Passing (h labels : List ℕ) (r : Record) (base e a : ℕ) : Type 0 where
-  pub from : base ≤ a
-  pub upto : a ≤ e
-  pub stop : behind h a (objects h a e) ≡ behind h base (objects h base e)
+  pub way : Onward h base e a
   pub same : (links : List ℕ) → each (refsGood (lent h labels links r)) (objects h a e) ≡ each (refsGood (lent h labels links r)) (objects h base e)
 
 module _ (h labels : List ℕ) (r : Record) (base e a : ℕ) (W : Passing h labels r base e a) where
@@ -97,9 +94,7 @@ module _ (h labels : List ℕ) (r : Record) (base e a : ℕ) (W : Passing h labe
   pub passing-ends : isHeader (at h a) (e - a) ≡ false
       → (a ≡ behind h base (objects h base e)) × ((links : List ℕ) → each (refsGood (lent h labels links r)) (objects h base e) ≡ true)
   unfolding each
-  passing-ends q =
-      let z = objects-end h a e q in
-      (sym (behind-nil h a) ∙ (rw z at (W .stop)), λ links. sym (rw z at (W .same links)))
+  passing-ends q = (onward-ends h base e a (W .way) q, λ links. sym (rw (objects-end h a e q) at (W .same links)))
 
   pub passing-bad : isHeader (at h a) (e - a) ≡ true → (links : List ℕ) → refsGood (lent h labels links r) a ≡ false → each (refsGood (lent h labels links r)) (objects h base e) ≡ false
   unfolding each
@@ -108,13 +103,9 @@ module _ (h labels : List ℕ) (r : Record) (base e a : ℕ) (W : Passing h labe
   pub passing-on : isHeader (at h a) (e - a) ≡ true → ((links : List ℕ) → refsGood (lent h labels links r) a ≡ true) → (n : ℕ) → n ≡ size h a → Passing h labels r base e (a + n)
   unfolding each
   passing-on q b n en =
-      let z = objects-step h a e q in
-      let H = header-says _ _ q in
       rw en (record {
-        from = omega (arith, W .from);
-        upto = omega (arith, W .upto, H .fits);
-        stop = sym (behind-cons h a a (objects h (a + size h a) e)) ∙ (rw z at (W .stop));
-        same = λ links. more (refsGood (lent h labels links r)) (objects h (a + size h a) e) (b links) ∙ (rw z at (W .same links));
+        way = onward-on h base e a (W .way) q;
+        same = λ links. more (refsGood (lent h labels links r)) (objects h (a + size h a) e) (b links) ∙ (rw (objects-step h a e q) at (W .same links));
       })
     where
       more : (F : ℕ → Bool) (xs : List ℕ) → F a ≡ true → each F xs ≡ (F a && each F xs)

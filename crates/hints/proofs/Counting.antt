@@ -1,50 +1,19 @@
--- Laws of the count of words: those on a page are counted by its walk, and those of the pages without a mark are added up.
-use mathlib.Core.Path.{_≡_, refl, _∙_}
+-- Laws of the count of words: those of the pages without a mark are added up, page by page.
+use mathlib.Core.Path.{_≡_, _∙_}
 use mathlib.Core.Logic.{_⊎_, inl, inr}
 use mathlib.Core.Bool.{Bool, true, false, _||_}
 use mathlib.Core.List.{List}
-use Prim.Native.Nat.{ℕ, _+_, _*_, _-_, _≤_, _<_}
+use Prim.Native.Nat.{ℕ, _+_, _≤_, _<_}
 use native.Mathlib.Omega.{arith}
 use lib.ListN.{length, getD, replicate, length-replicate, getD-replicate}
-use Rattle.rules.specs.Ranges.{at, block, has, sum}
-use Rattle.rules.specs.Header.{isHeader}
+use Rattle.rules.specs.Ranges.{block, has, sum}
 use Rattle.rules.specs.Pages.{pagesNamed}
 use Rattle.rules.specs.Lent.{Lent}
 use Rattle.rules.specs.Walk.{wordsOn}
 use Rattle.rules.specs.Collect.{isUnhinted, wordsUnhinted}
 use Rattle.laws.specs.Lists.{mem-block, sum-past, sum-step, sum-same, sum-none}
-use Rattle.laws.specs.Headers.{Header, header-says}
-use Rattle.laws.specs.Walk.{size, objects, objects-end, objects-step, starts-are}
 use Rattle.laws.specs.FreePages.{free-past}
 use Rattle.hints.specs.Code.{unmarked, wordsUnmarked}
-
--- the walk from base to e has come to `here`: what it met, with what it will meet, is all of it
-pub record Counting (h : List ℕ) (base e here : ℕ) : Type 0 where
-  pub from : base ≤ here
-  pub upto : here ≤ e
-  pub all : here + sum (size h) (objects h here e) ≡ base + sum (size h) (objects h base e)
-
-pub counting-begins : (h : List ℕ) (base e : ℕ) → base ≤ e → Counting h base e base
-counting-begins h base e le = record { from = omega arith; upto = le; all = refl }
-
-module _ (h : List ℕ) (base e here : ℕ) (C : Counting h base e here) where
-  pub counting-on : isHeader (at h here) (e - here) ≡ true → (n : ℕ) → n ≡ size h here → Counting h base e (here + n)
-  unfolding sum
-  counting-on q n k =
-      let H : Header _ _ = header-says _ _ q in
-      let r : here + sum (size h) (objects h here e) ≡ here + (size h here + sum (size h) (objects h (here + size h here) e)) = rw (objects-step h here e q) in
-      rw k (record { from = omega (arith, C .from); upto = omega (arith, H .fits, C .upto); all = omega (arith, C .all) })
-
-  pub counting-ends : isHeader (at h here) (e - here) ≡ false → here ≡ base + sum (size h) (objects h base e)
-  unfolding sum
-  counting-ends q = let r : here + sum (size h) (objects h here e) ≡ here + 0 = rw (objects-end h here e q) in omega (arith, C .all)
-
--- and these are the words on its page
-pub counted : (m : Lent) (g : ℕ) → sum (size (m .heap)) (objects (m .heap) (g * m .rec .page) (g * m .rec .page + m .rec .page)) ≡ wordsOn m g
-unfolding wordsOn
-counted m g = rw (starts-are m g)
-
--- ---- page by page
 
 -- one page more
 pub adds : (f : ℕ → ℕ) (hi n g all v : ℕ) → g < hi → f g ≡ v → n + sum f (block g hi) ≡ all → n + v + sum f (block (g + 1) hi) ≡ all

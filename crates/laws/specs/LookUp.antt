@@ -23,7 +23,7 @@ use Rattle.laws.specs.Lists.{has-mem, mem-has}
 use Rattle.laws.specs.Headers.{header-says, header-full, header-zero}
 use Rattle.laws.specs.Pages.{page-on}
 use Rattle.laws.specs.Valid.{Layout, page-within}
-use Rattle.laws.specs.Walk.{size, Steps, stops, step, steps-upto, page-steps, met, objects, objects-end, objects-step, objects-steps, starts-are, behind-nil, behind-cons}
+use Rattle.laws.specs.Walk.{size, Steps, stops, step, steps-upto, page-steps, met, objects, objects-end, objects-step, objects-steps, Onward, onward-begins, onward-on, onward-ends, starts-are}
 
 -- ---- the tests and the propositions agree
 
@@ -187,8 +187,7 @@ module _ (h : List ℕ) (a : ℕ) where
 -- ---- the same as a loop over headers meets it: at `b`, with the last object so far
 
 pub record Walking (h : List ℕ) (base e a b last : ℕ) : Type 0 where
-  pub from : base ≤ b
-  pub stop : behind h b (objects h b e) ≡ behind h base (objects h base e)
+  pub way : Onward h base e b
   pub last′ : lastUpTo a last (objects h b e) ≡ lastUpTo a base (objects h base e)
   pub begins : b ≡ base → last ≡ base
   pub inside : base < b → last < length h
@@ -201,14 +200,12 @@ no-header h b e (inr p) = rw (List·getD-eq-default h 0 p) (header-zero (e - b))
 
 module _ (h : List ℕ) (base e a : ℕ) where
   pub walking-begins : Walking h base e a base base
-  walking-begins = record { from = omega arith; stop = refl; last′ = refl; begins = λ p. refl; inside = λ p. absurd (omega arith); below = λ p. p }
+  walking-begins = record { way = onward-begins h base e; last′ = refl; begins = λ p. refl; inside = λ p. absurd (omega arith); below = λ p. p }
 
   module _ (b last : ℕ) (W : Walking h base e a b last) where
     pub walking-ends : isHeader (at h b) (e - b) ≡ false → (b ≡ behind h base (objects h base e)) × (last ≡ lastUpTo a base (objects h base e))
     unfolding lastUpTo
-    walking-ends q =
-        let z = objects-end h b e q in
-        (sym (behind-nil h b) ∙ (rw z at (W .stop)), rw z at (W .last′))
+    walking-ends q = (onward-ends h base e b (W .way) q, rw (objects-end h b e q) at (W .last′))
 
     pub walking-on : isHeader (at h b) (e - b) ≡ true → b < length h → (n last₁ : ℕ) → n ≡ size h b → last₁ ≡ cond (leb b a) b last → Walking h base e a (b + n) last₁
     unfolding lastUpTo
@@ -216,17 +213,16 @@ module _ (h : List ℕ) (base e a : ℕ) where
         let z = objects-step h b e q in
         let H = header-says _ _ q in
         rw (en, el) (record {
-          from = omega (arith, W .from);
-          stop = sym (behind-cons h b b (objects h (b + size h b) e)) ∙ (rw z at (W .stop));
+          way = onward-on h base e b (W .way) q;
           last′ = rw z at (W .last′);
-          begins = λ p. absurd (omega (arith, W .from, H .shape));
+          begins = λ p. absurd (omega (arith, W .way .from, H .shape));
           inside = λ p. into (leb b a) (ℕ-discrete base b);
           below = λ p. under (leb b a) refl (W .below p);
         })
       where
         into : (t : Bool) → Dec (base ≡ b) → cond t b last < length h
         into true d = i
-        into false (no d) = W .inside (omega (arith, W .from))
+        into false (no d) = W .inside (omega (arith, W .way .from))
         into false (yes d) = omega (arith, W .begins (sym d))
 
         under : (t : Bool) → leb b a ≡ t → last ≤ a → cond t b last ≤ a

@@ -1,6 +1,6 @@
 -- Laws of the walk. `objects h a e` is the walk from address a to the page's end e: loops over headers go by its two laws.
 -- `Steps` is the same without fuel, for inductions.
-use mathlib.Core.Path.{_≡_, refl, ap, _∙_, subst}
+use mathlib.Core.Path.{_≡_, refl, sym, ap, _∙_, subst}
 use mathlib.Core.Logic.{_⊎_, inl, inr}
 use mathlib.Core.Bool.{Bool, true, false, cond}
 use mathlib.Core.List.{List, [], _∷_, List·Memᴰ, List·Memᴰ·head, List·Memᴰ·tail, List·Memᴰ·cases-cons, List·Memᴰ·not-nil}
@@ -90,6 +90,29 @@ module _ (h : List ℕ) (a e : ℕ) where
   unfolding objects
   objects-steps = steps (e - a) a (e - a) h (omega arith)
 
+-- ---- as a loop over headers meets it: the walk to e began at base, is at a, and will stop where all of it does
+
+pub record Onward (h : List ℕ) (base e a : ℕ) : Type 0 where
+  pub from : base ≤ a
+  pub upto : base ≤ e → a ≤ e
+  pub stop : behind h a (objects h a e) ≡ behind h base (objects h base e)
+
+pub onward-begins : (h : List ℕ) (base e : ℕ) → Onward h base e base
+onward-begins h base e = record { from = omega arith; upto = λ le. le; stop = refl }
+
+module _ (h : List ℕ) (base e a : ℕ) (W : Onward h base e a) where
+  pub onward-on : isHeader (at h a) (e - a) ≡ true → Onward h base e (a + size h a)
+  onward-on q =
+      let H = header-says _ _ q in
+      record {
+        from = omega (arith, W .from);
+        upto = λ le. omega (arith, W .upto le, H .fits);
+        stop = sym (behind-cons h a a (objects h (a + size h a) e)) ∙ (rw (objects-step h a e q) at (W .stop));
+      }
+
+  pub onward-ends : isHeader (at h a) (e - a) ≡ false → a ≡ behind h base (objects h base e)
+  onward-ends q = sym (behind-nil h a) ∙ (rw (objects-end h a e q) at (W .stop))
+
 -- the walk of page g
 pub starts-are : (m : Lent) (g : ℕ) → starts m g ≡ objects (m .heap) (g * m .rec .page) (g * m .rec .page + m .rec .page)
 unfolding starts objects
@@ -151,13 +174,14 @@ unfolding sum
 steps-words (stops e) = omega arith
 steps-words (step e r) = omega (arith, steps-words r)
 
--- the words in objects on a page, and that there are no more than P
-pub words-on : (m : Lent) (g : ℕ) → g * m .rec .page + wordsOn m g ≡ stop m g
-unfolding wordsOn
-words-on m g = steps-words (page-steps m g)
+-- the words in objects on a page: the walk's way to its stop, and no more than P
+pub words-on : (m : Lent) (g : ℕ) → behind (m .heap) (g * m .rec .page) (objects (m .heap) (g * m .rec .page) (g * m .rec .page + m .rec .page)) ≡ g * m .rec .page + wordsOn m g
+unfolding wordsOn stop
+words-on m g = rw (← starts-are m g) (sym (steps-words (page-steps m g)))
 
 pub words-on-page : (m : Lent) (g : ℕ) → wordsOn m g ≤ m .rec .page
-words-on-page m g = omega (arith, words-on m g, steps-upto (page-steps m g) .1)
+unfolding wordsOn
+words-on-page m g = omega (arith, steps-words (page-steps m g), steps-upto (page-steps m g) .1)
 
 -- it stops past its first word exactly where it meets something
 pub steps-some : {h : List ℕ} {a room z : ℕ} {l : List ℕ} → Steps h a room l z → a < z → 1 ≤ length l

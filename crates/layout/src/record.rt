@@ -3,7 +3,6 @@ use crate::header;
 use crate::pages;
 use rules::Record;
 ghost use mathlib.Core.Path.{_≡_};
-ghost use lib.ListN.{length};
 ghost use Rattle.rules.specs.Ranges.{at};
 ghost use Rattle.rules.specs.Lent.{lent, isLaidOut, isOpen, isValid};
 

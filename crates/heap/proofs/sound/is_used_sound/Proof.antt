@@ -11,6 +11,7 @@ use Rattle.rules.specs.Header.{sizeOf, isHeader}
 use Rattle.rules.specs.Lent.{Lent, lent}
 use Rattle.rules.specs.Sound.{isBlank, refsGood, isUsedSound}
 use Rattle.laws.specs.Headers.{Header, header-says}
+use Rattle.laws.specs.Walk.{onward-begins}
 use Rattle.heap.proofs.Laws.{place, Passing, passing-ends, passing-bad, passing-on, used-label, used-bad, used-none, used-is}
 use borrow.Author.Needs.{needs}
 use Rattle.heap.proofs.sound.is_used_sound.Statement.{statement}
@@ -67,13 +68,13 @@ add-end : tie.Need-add-end Inv-loop μ-loop
 add-end c = omega (arith, (fits (c .before .before .before .before .before .before)))
 
 loop-holds : tie.Need-loop-holds Inv-loop μ-loop
-loop-holds c = record { from = omega arith; upto = omega arith; stop = refl; same = λ links. refl }
+loop-holds c = record { way = onward-begins _ _ _; same = λ links. refl }
 
 word-at-requires : tie.Need-word-at-requires Inv-loop μ-loop
 word-at-requires c κs = search needs
 
 sub-is-header : tie.Need-sub-is-header Inv-loop μ-loop
-sub-is-header c = omega (arith, c .before .loop .inv .upto)
+sub-is-header c = c .before .loop .inv .way .upto (omega arith)
 
 is-header-requires : tie.Need-is-header-requires Inv-loop μ-loop
 is-header-requires c κs = search needs
