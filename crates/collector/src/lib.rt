@@ -1,9 +1,9 @@
 // Collect: its tests in the order 1, 7, 6, 8, and then the four steps. Nothing lent is changed before all tests have passed.
 use hints::unhinted;
-use layout::pages;
 use layout::record;
 use layout::tables;
 use layout::walk;
+use numbers::pages;
 use rules::Collected;
 use rules::Record;
 ghost use mathlib.Core.Path.{_≡_};
@@ -59,7 +59,7 @@ fn refusal(
     if !record::is_valid(heap, labels, links, r) {
         return 1;
     }
-    if !heap::sound::is_sound(heap, labels, links, r) {
+    if !sound::is_sound(heap, labels, links, r) {
         return 7;
     }
     if !are_roots_good(heap, labels, r, roots) {

@@ -2,8 +2,8 @@
 // calls for users: they are safe only where the tests of collect have passed, and their `requires` say so,
 // as in `phases`.
 use hints::Shape;
-use layout::header;
 use layout::tables;
+use numbers::header;
 ghost use mathlib.Core.Path.{_≡_};
 ghost use mathlib.Core.Logic.{_⊎_};
 ghost use Prim.Native.Nat.{_+_, _*_, _≤_, _<_};

@@ -138,7 +138,7 @@ fn payload(
 
 fn root(asked: &[u8], roots: &[u32], i: usize) {
     if i < roots.len() {
-        line(asked, layout::header::wide(roots[i]) as u64);
+        line(asked, numbers::header::wide(roots[i]) as u64);
     }
 }
 
@@ -275,17 +275,4 @@ fn landings_on(heap: &mut [u32], labels: &mut [u16], links: &mut [u16]) {
 
 pub fn landings() {
     landings_on(&mut [7u32; 48], &mut [7u16; 6], &mut [7u16; 6]);
-}
-
-// A session of one record, a start with P 128 and this T: what it prints.
-fn session_start(asked: &[u8], pages: u8) {
-    let mut out = [0u8; 264037];
-    let n = steps::run(&[0, 0, 0, pages, 128, 0, 0, 0], &mut out);
-    io::write_all(1, asked);
-    io::write_all(1, &out[..n]);
-}
-
-pub fn sessions() {
-    session_start(b"a session start with P 128, T 64: ", 64);
-    session_start(b"a session start with P 128, T 65: ", 65);
 }

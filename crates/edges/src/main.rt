@@ -10,9 +10,9 @@ pub fn line(asked: &[u8], answer: u64) {
 }
 
 fn headers() {
-    line(b"* header of d 3, p 1: ", layout::header::header_of(3, 1));
-    line(b"* header of d 0, p 0: ", layout::header::header_of(0, 0));
-    line(b"* header of d 7, p 7: ", layout::header::header_of(7, 7));
+    line(b"* header of d 3, p 1: ", numbers::header::header_of(3, 1));
+    line(b"* header of d 0, p 0: ", numbers::header::header_of(0, 0));
+    line(b"* header of d 7, p 7: ", numbers::header::header_of(7, 7));
 }
 
 fn page(asked: &[u8], word: u32) {
@@ -63,5 +63,4 @@ fn main() {
     calls::collections();
     calls::boundaries();
     calls::landings();
-    calls::sessions();
 }

@@ -1,13 +1,12 @@
 // Start, allocate, look-up, load and store over lent memory. Each answers every input: its contract is one equation with its
 // definition in `rules`, refusals included. The checks go in the order of the table of refusals.
 mod object;
-pub mod sound;
 
-use layout::header;
-use layout::pages;
 use layout::record;
 use layout::tables;
 use layout::walk;
+use numbers::header;
+use numbers::pages;
 use rules::Answer;
 use rules::Found;
 use rules::Record;

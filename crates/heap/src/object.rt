@@ -1,23 +1,11 @@
-// Words of the heap: one read anywhere, and those of an object put down.
-use layout::header;
+// The words of an object, put down.
+use numbers::header;
 ghost use mathlib.Core.Path.{_≡_};
 ghost use mathlib.Core.List.{_∷_};
 ghost use lib.ListN.{replicate};
 ghost use lib.Seq.{sets};
-ghost use Rattle.rules.specs.Ranges.{at};
 ghost use Rattle.rules.specs.Header.{headerOf};
 ghost use Rattle.heap.specs.Code.{Room};
-
-// The word at an address; 0 past the heap.
-pub fn word_at(heap: &[u32], address: usize) -> u32
-    ensures { λ r. ⌜ r ≡ at (now (heap .entry)) address ⌝ }
-{
-    if address < heap.len() {
-        heap[address]
-    } else {
-        0
-    }
-}
 
 // The header of an object of d payload words, the first p of them references, and d zeros after it. The caller sees that
 // there is room.

@@ -4,8 +4,8 @@
 // where tests of collect have passed, and their `requires` say so, as in `phases`.
 pub mod unhinted;
 
-use layout::pages;
 use layout::record;
+use numbers::pages;
 ghost use mathlib.Core.Path.{_≡_};
 ghost use Prim.Native.Nat.{_<_};
 ghost use lib.ListN.{length};

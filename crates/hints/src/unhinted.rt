@@ -1,9 +1,9 @@
 // The words in objects on pages in use that no hint names: W of refusal 8. This is no step but a test before
 // them. Marking the named pages first keeps the work linear in hints and words.
-use layout::header;
-use layout::pages;
 use layout::record;
 use layout::tables;
+use numbers::header;
+use numbers::pages;
 use rules::Record;
 ghost use mathlib.Core.Path.{_≡_};
 ghost use mathlib.Core.Bool.{false, _||_};

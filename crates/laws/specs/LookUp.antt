@@ -17,7 +17,7 @@ use Rattle.rules.specs.Tests.{and-left, and-right, and-is}
 use Rattle.rules.specs.Ranges.{at, has}
 use Rattle.rules.specs.Header.{sizeOf, refsOf, isHeader}
 use Rattle.rules.specs.Lent.{Lent}
-use Rattle.rules.specs.Walk.{behind, starts, stop, isInUse, isStart, isReference, landing, found}
+use Rattle.rules.specs.Walk.{behind, starts, isInUse, isStart, isReference, landing, found}
 use Rattle.rules.specs.Sound.{InUse, IsObject}
 use Rattle.laws.specs.Lists.{has-mem, mem-has}
 use Rattle.laws.specs.Headers.{header-says, header-full, header-zero}

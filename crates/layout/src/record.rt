@@ -1,6 +1,6 @@
 // The control record, the lengths of what is lent, and when both are valid.
-use crate::header;
-use crate::pages;
+use numbers::header;
+use numbers::pages;
 use rules::Record;
 ghost use mathlib.Core.Path.{_≡_};
 ghost use Rattle.rules.specs.Ranges.{at};

@@ -1,6 +1,6 @@
 // The walk of a page, and what is found at an address.
-use crate::header;
 use crate::record;
+use numbers::header;
 use rules::Found;
 use rules::Record;
 ghost use mathlib.Core.Path.{_≡_};

@@ -7,8 +7,8 @@ pub mod sweep;
 
 use copies::Gather;
 use hints::Shape;
-use layout::pages;
 use layout::tables;
+use numbers::pages;
 use rules::Collected;
 use rules::Record;
 ghost use mathlib.Core.Path.{_≡_};

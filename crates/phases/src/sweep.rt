@@ -2,7 +2,7 @@
 // forwarded. Hinted pages stand first in the queue, and pages taken meanwhile join it.
 use copies::Gather;
 use hints::Shape;
-use layout::header;
+use numbers::header;
 ghost use mathlib.Core.Path.{_≡_};
 ghost use Prim.Native.Nat.{_+_, _-_, _≤_};
 ghost use lib.ListN.{length};

@@ -104,7 +104,7 @@ pub extern "C" fn fouterpin_collect(
 pub extern "C" fn fouterpin_page_named(word: u32, page: u32, pages: u32) -> u32
     ensures { λ r. ⌜ r ≡ pageNamedToC word page pages ⌝ }
 {
-    layout::pages::page_named_checked(word, page, pages)
+    numbers::pages::page_named_checked(word, page, pages)
 }
 
 // Which page the word before names, 0 for none; there is none before word 0. A hint word names this one too, after its own.
@@ -112,7 +112,7 @@ pub extern "C" fn fouterpin_page_named(word: u32, page: u32, pages: u32) -> u32
 pub extern "C" fn fouterpin_page_named_before(word: u32, page: u32, pages: u32) -> u32
     ensures { λ r. ⌜ r ≡ pageNamedBeforeToC word page pages ⌝ }
 {
-    layout::pages::page_named_before_checked(word, page, pages)
+    numbers::pages::page_named_before_checked(word, page, pages)
 }
 
 // How many pages a collection may need, where there are `words` words in objects on pages in use that no hint names.
@@ -120,5 +120,5 @@ pub extern "C" fn fouterpin_page_named_before(word: u32, page: u32, pages: u32) 
 pub extern "C" fn fouterpin_pages_needed(words: u32, page: u32) -> u32
     ensures { λ r. ⌜ r ≡ pagesNeededToC words page ⌝ }
 {
-    layout::pages::pages_needed(words, page)
+    numbers::pages::pages_needed(words, page)
 }

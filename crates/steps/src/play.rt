@@ -3,8 +3,8 @@
 use crate::cells;
 use entries::Operand;
 use entries::Step;
-use layout::pages;
 use layout::tables;
+use numbers::pages;
 use rules::Answer;
 use rules::Record;
 ghost use mathlib.Core.Path.{_≡_};

@@ -4,7 +4,7 @@ use mathlib.Core.Path.{ap}
 use mathlib.Core.List.{List, _++_}
 use Prim.Native.Nat.{ℕ}
 use native.Mathlib.Omega.{arith}
-use Rattle.lines.specs.Lines.{digits, number}
+use Rattle.lines.specs.Lines.{number}
 use Rattle.lines.specs.Put.{put-then, put-as}
 use Rattle.lines.proofs.Decimal.{Spelled, spells}
 use borrow.Author.Needs.{needs}

@@ -4,13 +4,12 @@ use mathlib.Core.Path.{_≡_, sym, ap, _∙_}
 use mathlib.Core.Bool.{true}
 use Prim.Native.Nat.{ℕ, _*_, _≤_}
 use native.Mathlib.Omega.{arith}
-use lib.ListN.{length, replicate}
+use lib.ListN.{replicate}
 use lib.Seq.{length-take-le}
 use borrow.Author.Tests.{not-true, not-false}
 use Rattle.rules.specs.Pages.{isShape, pageAtStart}
-use Rattle.rules.specs.Lent.{lent}
 use Rattle.laws.specs.Pages.{shape-says, heap-fits}
-use Rattle.steps.specs.Session.{Session, refused, accepted}
+use Rattle.steps.specs.Session.{Session, refused}
 use Rattle.steps.specs.Code.{session}
 use Rattle.steps.proofs.Stepping.{start-refused-1, start-refused-9, few-pages, start-on-part}
 use borrow.Author.Needs.{needs}

@@ -5,7 +5,6 @@ use mathlib.Core.Bool.{true}
 use native.Mathlib.Omega.{arith}
 use lib.Seq.{length-take-le}
 use borrow.Author.Tests.{not-true, not-false}
-use Rattle.rules.specs.Lent.{lent}
 use Rattle.entries.specs.Entries.{isAllowed}
 use Rattle.steps.specs.Session.{Session, refused, perform}
 use Rattle.steps.specs.Code.{session}
