@@ -132,7 +132,7 @@ fn payload(
     address: u32,
     index: u32,
 ) {
-    let a = heap::load(heap, labels, links, r, address, index);
+    let a = objects::load(heap, labels, links, r, address, index);
     line(asked, a.value as u64);
 }
 
@@ -147,8 +147,8 @@ fn root(asked: &[u8], roots: &[u32], i: usize) {
 fn collections_on(heap: &mut [u32], labels: &mut [u16], links: &mut [u16], roots: &mut [u32]) {
     let fresh = heap::start(heap, labels, links, none(), 8, 6).rec;
     let r = heap::allocate(heap, labels, links, fresh, 2, 1).rec;
-    heap::store(heap, labels, links, r, 8, 0, 8);
-    heap::store(heap, labels, links, r, 8, 1, 8);
+    objects::store(heap, labels, links, r, 8, 0, 8);
+    objects::store(heap, labels, links, r, 8, 1, 8);
     let c = collector::collect(heap, labels, links, r, roots, &[0u32; 1]).rec;
     root(b"the first of two root cells with one address: ", roots, 0);
     root(b"the second: ", roots, 1);
@@ -189,8 +189,8 @@ fn boundaries_on(heap: &mut [u32], labels: &mut [u16], links: &mut [u16]) {
     let r2 = heap::allocate(heap, labels, links, r1, 7, 1).rec;
     let r3 = heap::allocate(heap, labels, links, r2, 2, 0).rec;
     let r4 = heap::allocate(heap, labels, links, r3, 2, 0).rec;
-    heap::store(heap, labels, links, r4, 8, 0, 24);
-    heap::store(heap, labels, links, r4, 16, 0, 27);
+    objects::store(heap, labels, links, r4, 8, 0, 24);
+    objects::store(heap, labels, links, r4, 16, 0, 27);
     let c = collector::collect(heap, labels, links, r4, &mut [0u32; 1], &[16u32; 1]);
     line(
         b"* pages that word 16, at a boundary, keeps: ",
@@ -228,7 +228,7 @@ fn landed(asked: &[u8], a: Answer) {
 }
 
 fn look_up(asked: &[u8], heap: &[u32], labels: &[u16], links: &[u16], r: Record, address: u32) {
-    landed(asked, heap::look_up(heap, labels, links, r, address));
+    landed(asked, objects::look_up(heap, labels, links, r, address));
 }
 
 // One object, from 8 to 15, fills page 1.
@@ -261,7 +261,7 @@ fn look_ups(heap: &[u32], labels: &[u16], links: &[u16], r: Record) {
     look_up(b"* look-up of 7, on page 0: ", heap, labels, links, r, 7);
     landed(
         b"* load from 15: ",
-        heap::load(heap, labels, links, r, 15, 0),
+        objects::load(heap, labels, links, r, 15, 0),
     );
 }
 
@@ -269,7 +269,7 @@ fn landings_on(heap: &mut [u32], labels: &mut [u16], links: &mut [u16]) {
     let fresh = heap::start(heap, labels, links, none(), 8, 6).rec;
     let r = heap::allocate(heap, labels, links, fresh, 7, 0).rec;
     look_ups(heap, labels, links, r);
-    let a = heap::store(heap, labels, links, r, 15, 0, 0);
+    let a = objects::store(heap, labels, links, r, 15, 0, 0);
     landed(b"* store at 15: ", a);
 }
 

@@ -50,7 +50,7 @@ pub extern "C" fn fouterpin_look_up(
 ) -> Answer
     ensures { λ x. ⌜ outcome x (now (heap .entry)) (now (labels .entry)) (now (links .entry)) ≡ lookUp (lent (now (heap .entry)) (now (labels .entry)) (now (links .entry)) r) address ⌝ }
 {
-    heap::look_up(heap, labels, links, r, address)
+    objects::look_up(heap, labels, links, r, address)
 }
 
 // The value is that payload word of the object at the address.
@@ -65,7 +65,7 @@ pub extern "C" fn fouterpin_load(
 ) -> Answer
     ensures { λ x. ⌜ outcome x (now (heap .entry)) (now (labels .entry)) (now (links .entry)) ≡ load (lent (now (heap .entry)) (now (labels .entry)) (now (links .entry)) r) address index ⌝ }
 {
-    heap::load(heap, labels, links, r, address, index)
+    objects::load(heap, labels, links, r, address, index)
 }
 
 // That payload word becomes the value.
@@ -81,7 +81,7 @@ pub extern "C" fn fouterpin_store(
 ) -> Answer
     ensures { λ x. ⌜ outcome x (now (heap .exit)) (now (labels .exit)) (now (links .exit)) ≡ store (lent (now (heap .entry)) (now (labels .entry)) (now (links .entry)) r) address index value ⌝ }
 {
-    heap::store(heap, labels, links, r, address, index, value)
+    objects::store(heap, labels, links, r, address, index, value)
 }
 
 // A collection: root cells may change, hint words never do.

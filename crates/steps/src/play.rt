@@ -94,7 +94,7 @@ fn store(
 ) -> Answer
     ensures { λ a. ⌜ ((hints : List ℕ) → replied a (now (heap .exit)) (now (labels .entry)) (now (links .entry)) (now (roots .entry)) hints ≡ perform (playing (now (heap .entry)) (now (labels .entry)) (now (links .entry)) (now (roots .entry)) hints r) (Store x i operand)) ⌝ }
 {
-    heap::store(
+    objects::store(
         heap,
         labels,
         links,
@@ -117,7 +117,7 @@ fn load(
 ) -> Answer
     ensures { λ a. ⌜ ((hints : List ℕ) → replied a (now (heap .entry)) (now (labels .entry)) (now (links .entry)) (now (roots .entry)) hints ≡ perform (playing (now (heap .entry)) (now (labels .entry)) (now (links .entry)) (now (roots .entry)) hints r) (Load x i)) ⌝ }
 {
-    heap::load(heap, labels, links, r, cells::get(roots, x), i)
+    objects::load(heap, labels, links, r, cells::get(roots, x), i)
 }
 
 // A derived address, before, inside or behind the object at root y.
@@ -172,7 +172,7 @@ fn look_up(
 ) -> Answer
     ensures { λ a. ⌜ ((hints : List ℕ) → replied a (now (heap .entry)) (now (labels .entry)) (now (links .entry)) (now (roots .entry)) hints ≡ perform (playing (now (heap .entry)) (now (labels .entry)) (now (links .entry)) (now (roots .entry)) hints r) (LookUp x v)) ⌝ }
 {
-    heap::look_up(heap, labels, links, r, root_plus(roots, x, v))
+    objects::look_up(heap, labels, links, r, root_plus(roots, x, v))
 }
 
 // Refusal 9, with the record as it was.

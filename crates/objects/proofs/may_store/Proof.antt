@@ -1,9 +1,9 @@
--- `heap::may_store` meets its contract. Assumes nothing.
+-- `objects::may_store` meets its contract. Assumes nothing.
 use borrow.Author.Tests.{le-leb, lt-leb}
 use Rattle.rules.specs.Calls.{mayStore}
 use borrow.Author.Needs.{needs}
-use Rattle.heap.proofs.may_store.Statement.{statement}
-use Rattle.heap.proofs.may_store.Tie as tie
+use Rattle.objects.proofs.may_store.Statement.{statement}
+use Rattle.objects.proofs.may_store.Tie as tie
 
 refs-of-requires : tie.Need-refs-of-requires
 refs-of-requires c κs = search needs

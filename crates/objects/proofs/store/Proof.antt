@@ -1,4 +1,4 @@
--- `heap::store` meets its contract: as `load`'s, and one test more. Assumes nothing.
+-- `objects::store` meets its contract: as `load`'s, and one test more. Assumes nothing.
 use mathlib.Core.Path.{_≡_, sym, _∙_}
 use mathlib.Core.Bool.{true}
 use Prim.Native.Nat.{_+_, _≤_}
@@ -11,10 +11,10 @@ use Rattle.rules.specs.Header.{sizeOf}
 use Rattle.rules.specs.Lent.{Lent, lent, isValid}
 use Rattle.rules.specs.Walk.{found}
 use Rattle.rules.specs.Calls.{store}
-use Rattle.heap.proofs.Laws.{not-start, found-within}
+use Rattle.objects.proofs.Laws.{not-start, found-within}
 use borrow.Author.Needs.{needs}
-use Rattle.heap.proofs.store.Statement.{statement}
-use Rattle.heap.proofs.store.Tie as tie
+use Rattle.objects.proofs.store.Statement.{statement}
+use Rattle.objects.proofs.store.Tie as tie
 
 -- what is lent
 abbrev memory : (c : tie.Start) → Lent

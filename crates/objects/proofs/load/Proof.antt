@@ -1,4 +1,4 @@
--- `heap::load` meets its contract: each test of the code is a test of the definition, and an object that was found lies in the
+-- `objects::load` meets its contract: each test of the code is a test of the definition, and an object that was found lies in the
 -- heap. Assumes nothing.
 use mathlib.Core.Path.{_≡_, sym, _∙_}
 use mathlib.Core.Bool.{true}
@@ -12,10 +12,10 @@ use Rattle.rules.specs.Header.{sizeOf}
 use Rattle.rules.specs.Lent.{Lent, lent, isValid}
 use Rattle.rules.specs.Walk.{found}
 use Rattle.rules.specs.Calls.{load}
-use Rattle.heap.proofs.Laws.{not-start, found-within}
+use Rattle.objects.proofs.Laws.{not-start, found-within}
 use borrow.Author.Needs.{needs}
-use Rattle.heap.proofs.load.Statement.{statement}
-use Rattle.heap.proofs.load.Tie as tie
+use Rattle.objects.proofs.load.Statement.{statement}
+use Rattle.objects.proofs.load.Tie as tie
 
 -- what is lent
 abbrev memory : (c : tie.Start) → Lent

@@ -1,10 +1,10 @@
--- `heap::look_up` meets its contract. Assumes nothing.
+-- `objects::look_up` meets its contract. Assumes nothing.
 use mathlib.Core.Path.{sym, _∙_}
 use borrow.Author.Tests.{not-true, not-false}
 use Rattle.rules.specs.Calls.{lookUp}
 use borrow.Author.Needs.{needs}
-use Rattle.heap.proofs.look_up.Statement.{statement}
-use Rattle.heap.proofs.look_up.Tie as tie
+use Rattle.objects.proofs.look_up.Statement.{statement}
+use Rattle.objects.proofs.look_up.Tie as tie
 
 is-valid-requires : tie.Need-is-valid-requires
 is-valid-requires c κs = search needs

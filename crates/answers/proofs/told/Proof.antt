@@ -1,7 +1,7 @@
--- `heap::told` meets its contract: each arm is its case of the definition. Assumes nothing.
+-- `answers::told` meets its contract: each arm is its case of the definition. Assumes nothing.
 use borrow.Author.Needs.{needs}
-use Rattle.heap.proofs.told.Statement.{statement}
-use Rattle.heap.proofs.told.Tie as tie
+use Rattle.answers.proofs.told.Statement.{statement}
+use Rattle.answers.proofs.told.Tie as tie
 
 enum-told : tie.Need-enum-told
 enum-told c = search needs
