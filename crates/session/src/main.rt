@@ -7,6 +7,6 @@ fn main() {
     let mut input = [0u8; 64000];
     let n = io::read_full(STDIN_FILENO, &mut input);
     let mut out = [0u8; 264037];
-    let m = steps::run(&input[..n], &mut out);
+    let m = runs::run(&input[..n], &mut out);
     io::write_all(STDOUT_FILENO, &out[..m]);
 }

@@ -4,7 +4,7 @@ use mathlib.Core.Path.{_≡_, sym, ap, _∙_}
 use mathlib.Core.List.{List, _++_}
 use Prim.Native.Nat.{ℕ}
 use lib.ListN.{length, drop}
-use Rattle.steps.specs.Run.{transcript}
+use Rattle.runs.specs.Run.{transcript}
 
 -- n bytes were answered, and `after` stands where `before` stood
 pub record Runs (input before : List ℕ) (n : ℕ) (after : List ℕ) : Type 0 where

@@ -1,4 +1,4 @@
--- `steps::run` meets its contract: its buffers have the lengths that the run asks for, and of the input it lends the first
+-- `runs::run` meets its contract: its buffers have the lengths that the run asks for, and of the input it lends the first
 -- 64,000 bytes. Assumes nothing.
 use mathlib.Core.Path.{refl, sym, ap, _∙_}
 use mathlib.Core.List.{List}
@@ -6,15 +6,15 @@ use Prim.Native.Nat.{ℕ, _/_}
 use native.Mathlib.Omega.{arith}
 use lib.ListN.{length}
 use lib.Seq.{length-take-le}
 use Rattle.steps.specs.Session.{before}
 use Rattle.lines.specs.Lines.{none}
-use Rattle.steps.specs.Run.{run, transcript}
+use Rattle.runs.specs.Run.{run, transcript}
 use Rattle.lines.specs.Put.{put-as}
-use Rattle.steps.proofs.Running.{first-part, at-start, counts}
+use Rattle.runs.proofs.Running.{first-part, at-start, counts}
 use native.Mathlib.Nat.{zero-add}
 use borrow.Author.Needs.{needs}
-use Rattle.steps.proofs.run.Statement.{statement}
-use Rattle.steps.proofs.run.Tie as tie
+use Rattle.runs.proofs.run.Statement.{statement}
+use Rattle.runs.proofs.run.Tie as tie
 
 words-requires : tie.Need-words-requires
 words-requires c κs = search needs

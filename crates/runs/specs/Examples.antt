@@ -15,9 +15,9 @@ use Rattle.rules.specs.Calls.{start, inside, withObject, allocate, lookUp, load
 use Rattle.rules.specs.Collection.{hintPage, hintPages, takePage, withRoom, top, put, copyObject, forward, forwardRoots, sweepReference, sweepReferences, sweepPage, sweepQueue, freedLabels, freedHeap, planOf, begun, afterHints, afterRoots, afterSweep, collection}
 use Rattle.rules.specs.Collect.{isUnhinted, wordsUnhinted, hasRoom, refusalOfCollect, refusedCollect, acceptedCollect, collect}
 use Rattle.entries.specs.Entries.{decode}
 use Rattle.steps.specs.Session.{before, refused, accepted, passed, blank, perform, step}
 use Rattle.lines.specs.Lines.{digits, number, line, noted, ending}
-use Rattle.steps.specs.Run.{rest, run, transcript}
+use Rattle.runs.specs.Run.{rest, run, transcript}
 
 -- (op, x, y, i, v) of document 01, v as four bytes
 unfoldable input : List ℕ

@@ -14,9 +14,9 @@ use Rattle.entries.specs.declared.Entry.{Entry}
 use Rattle.entries.specs.declared.Next.the-variants.{Whole, Partial, Done}
 use Rattle.lines.specs.declared.tally.Tally.{Tally}
 use Rattle.entries.specs.Entries.{entryAt, nextAt, decode}
 use Rattle.steps.specs.Session.{Session, Stepped, step}
 use Rattle.lines.specs.Lines.{line, none, noted, ending}
-use Rattle.steps.specs.Run.{rest, answered, run}
+use Rattle.runs.specs.Run.{rest, answered, run}
 use Rattle.lines.specs.Put.{put, Put, put-more}
 
 -- ---- what stands at a place

@@ -1,4 +1,4 @@
--- `steps::run_on` meets its contract: between two records, what the definition still gives, put from here on, is the whole
+-- `runs::run_on` meets its contract: between two records, what the definition still gives, put from here on, is the whole
 -- output. Assumes nothing.
 use mathlib.Core.Path.{_≡_, sym, ap, _∙_}
 use Prim.Native.Nat.{_+_, _-_, _/_, _≤_}
@@ -6,16 +6,16 @@ use native.Mathlib.Omega.{arith}
 use lib.ListN.{length}
 use Rattle.entries.specs.declared.Next.the-variants.{Whole, Partial}
 use Rattle.entries.specs.Entries.{nextAt}
 use Rattle.steps.specs.Session.{step}
 use Rattle.lines.specs.Lines.{none, ending}
-use Rattle.steps.specs.Run.{run}
+use Rattle.runs.specs.Run.{run}
 use Rattle.steps.specs.Code.{session, notBegun, Buffers, Within}
 use Rattle.lines.specs.Put.{put-then, put-as}
-use Rattle.steps.proofs.Running.{Running, is-whole, is-partial, at-partial, at-done, begins}
-use Rattle.steps.proofs.Running as running
+use Rattle.runs.proofs.Running.{Running, is-whole, is-partial, at-partial, at-done, begins}
+use Rattle.runs.proofs.Running as running
 use borrow.Author.Needs.{needs}
-use Rattle.steps.proofs.run_on.Statement.{statement}
-use Rattle.steps.proofs.run_on.Tie as tie
+use Rattle.runs.proofs.run_on.Statement.{statement}
+use Rattle.runs.proofs.run_on.Tie as tie
 
 abbrev Inv-loop : tie.InvT-loop
 Inv-loop input heap₀ labels₀ links₀ roots₀ hints₀ out₀ s₀ tally₀ at₀ place₀ heap labels links roots hints out s tally at place = (Buffers heap labels links roots hints) × (Within s)

@@ -1,0 +1,3 @@
+pub mod Run
+pub mod Examples
+pub mod Determined
