@@ -13,13 +13,13 @@ use Rattle.rules.specs.declared.Found.the-variants.{Start}
 use Rattle.rules.specs.Tests.{and-left, and-right}
 use Rattle.rules.specs.Ranges.{at, each}
 use Rattle.rules.specs.Header.{sizeOf, refsOf}
-use Rattle.rules.specs.Pages.{pageAtStart, pagesUsed, pagesNeeded}
+use Rattle.rules.specs.Pages.{pageAtStart, pagesUsed}
 use Rattle.rules.specs.Lent.{Lent, isLaid, isValid}
 use Rattle.rules.specs.Walk.{isReference, found}
 use Rattle.rules.specs.Sound.{IsObject, refs, payload, Valid, isSound, Sound}
 use Rattle.rules.specs.Calls.{Outcome, refused, inside, accepted, started, start, withObject, goodShape, fitsOpen, mayTake, newPage, allocate, lookUp, load, mayStore, stored, store}
 use Rattle.rules.specs.Collection.{plainly, collection}
-use Rattle.rules.specs.Collect.{CollectOutcome, wordsUnhinted, hasRoom, refusalOfCollect, acceptedCollect, collect}
+use Rattle.rules.specs.Collect.{CollectOutcome, neededFor, pagesFree, hasRoom, refusalOfCollect, acceptedCollect, collect}
 use Rattle.laws.specs.Lists.{each-true}
 use Rattle.laws.specs.Valid.{valid-says, valid-layout}
 use Rattle.laws.specs.LookUp.{reference-says, found-object}
@@ -168,7 +168,7 @@ store-says m a i v =
 pub record CollectOk (m : Lent) (cells hints : List ℕ) (o : CollectOutcome) : Type 0 where
   pub sound : Sound m
   pub roots : (r : ℕ) → List·Memᴰ r cells → (r ≡ 0) ⊎ IsObject m r
-  pub room : pagesNeeded (m .rec .page) (wordsUnhinted m hints) ≤ m .rec .pages - 1 - pagesUsed (m .labels) 1 (m .rec .pages)
+  pub room : neededFor m hints ≤ pagesFree m
   pub is : o ≡ acceptedCollect (collection plainly m cells hints)
 
 pub collect-says : (m : Lent) (roots hints : List ℕ) → collect m roots hints .refusal ≡ 0 → CollectOk m roots hints (collect m roots hints)

@@ -13,7 +13,7 @@ use Rattle.rules.specs.Ranges.{block}
 use Rattle.rules.specs.Pages.{isFree, pagesUsed, pagesNeeded}
 use Rattle.rules.specs.Lent.{Lent}
 use Rattle.rules.specs.Walk.{wordsOn}
-use Rattle.rules.specs.Collect.{isUnhinted, pagesUnhinted, wordsUnhinted}
+use Rattle.rules.specs.Collect.{isUnhinted, pagesUnhinted, wordsUnhinted, neededFor}
 use Rattle.laws.specs.Lists.{sum-most}
 use Rattle.laws.specs.Walk.{words-on-page}
 use Rattle.laws.specs.FreePages.{count-fewer}
@@ -77,5 +77,5 @@ module _ (m : Lent) (hints : List ℕ) where
   words-used = le-trans words-unhinted (mul-le-mul-right (m .rec .page) unhinted-used)
 
   -- "this never exceeds the old figure"
-  pub needed-never-more : pagesNeeded (m .rec .page) (wordsUnhinted m hints) ≤ 2 * pagesUnhinted m hints - 1
+  pub needed-never-more : neededFor m hints ≤ 2 * pagesUnhinted m hints - 1
   needed-never-more = needed-pages (m .rec .page) (wordsUnhinted m hints) (pagesUnhinted m hints) words-unhinted

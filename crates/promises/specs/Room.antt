@@ -10,11 +10,10 @@ use native.Mathlib.Omega.{arith}
 use lib.Dec.{ltb}
 use borrow.Author.Tests.{ltb-true, lt-ltb, le-ltb}
 use Rattle.rules.specs.Ranges.{each}
-use Rattle.rules.specs.Pages.{pagesUsed, pagesNeeded}
 use Rattle.rules.specs.Lent.{Lent, isValid}
 use Rattle.rules.specs.Walk.{isReference}
 use Rattle.rules.specs.Sound.{IsObject, Sound, isSound}
-use Rattle.rules.specs.Collect.{pagesUnhinted, wordsUnhinted, hasRoom, refusalOfCollect, acceptedCollect, collect}
+use Rattle.rules.specs.Collect.{pagesUnhinted, neededFor, pagesFree, hasRoom, refusalOfCollect, acceptedCollect, collect}
 use Rattle.laws.specs.Lists.{true-each}
 use Rattle.laws.specs.Valid.{valid-is}
 use Rattle.laws.specs.LookUp.{reference-is}
@@ -23,25 +22,18 @@ use Rattle.laws.specs.Room.{needed-never-more}
 use Rattle.laws.specs.Collect.{collect-refusal, collect-accepts}
 use Rattle.theory.specs.Collections.{collect-finds}
 
--- N - k
-abbrev pub pagesFree : Lent → ℕ
-pagesFree m = m .rec .pages - 1 - pagesUsed (m .labels) 1 (m .rec .pages)
-
--- "the new figure" of these hints, and "the old figure": 2k' - 1, and 0 where k' is
-abbrev pub newFigure : Lent → List ℕ → ℕ
-newFigure m hints = pagesNeeded (m .rec .page) (wordsUnhinted m hints)
-
+-- "the old figure": 2k' - 1, and 0 where k' is
 abbrev pub oldFigure : Lent → List ℕ → ℕ
 oldFigure m hints = 2 * pagesUnhinted m hints - 1
 
 module _ (m : Lent) (roots hints : List ℕ) where
   -- "8 is given exactly when the new figure exceeds N - k": on any memory it tells that
-  pub eight-tells : collect m roots hints .refusal ≡ 8 → pagesFree m < newFigure m hints
+  pub eight-tells : collect m roots hints .refusal ≡ 8 → pagesFree m < neededFor m hints
   unfolding refusalOfCollect hasRoom
-  eight-tells z = go (isValid m) (isSound m) (each (isReference m) roots) (ltb (pagesFree m) (newFigure m hints)) refl (sym (collect-refusal m roots hints) ∙ z)
+  eight-tells z = go (isValid m) (isSound m) (each (isReference m) roots) (ltb (pagesFree m) (neededFor m hints)) refl (sym (collect-refusal m roots hints) ∙ z)
     where
-      go : (v s r b : Bool) → ltb (pagesFree m) (newFigure m hints) ≡ b → _≡_ {A = ℕ} (cond v (cond s (cond r (cond (not b) 0 8) 6) 7) 1) 8
-          → pagesFree m < newFigure m hints
+      go : (v s r b : Bool) → ltb (pagesFree m) (neededFor m hints) ≡ b → _≡_ {A = ℕ} (cond v (cond s (cond r (cond (not b) 0 8) 6) 7) 1) 8
+          → pagesFree m < neededFor m hints
       go true true true true e q = ltb-true _ _ e
       go true true true false e q = absurd (omega arith)
       go true true false b e q = absurd (omega arith)
@@ -56,23 +48,23 @@ module _ (m : Lent) (roots hints : List ℕ) where
         collect-refusal m roots hints
         ∙ rw (valid-is m (S .valid), sound-is m S, true-each (isReference m) roots (λ r k. reference-is m r (good r k)))
 
-    pub eight-given : pagesFree m < newFigure m hints → collect m roots hints .refusal ≡ 8
+    pub eight-given : pagesFree m < neededFor m hints → collect m roots hints .refusal ≡ 8
     unfolding hasRoom
     eight-given lt = by-room ∙ rw (lt-ltb _ _ lt)
 
-    pub room-given : newFigure m hints ≤ pagesFree m → collect m roots hints .refusal ≡ 0
+    pub room-given : neededFor m hints ≤ pagesFree m → collect m roots hints .refusal ≡ 0
     unfolding hasRoom
     room-given le = by-room ∙ rw (le-ltb _ _ le)
 
   -- "a collection takes at most 2·floor(W / (P + 1)) + 1 pages if W is at least 1, else none": an accepted one, on any memory
-  pub takes-at-most : collect m roots hints .refusal ≡ 0 → collect m roots hints .taken ≤ newFigure m hints
+  pub takes-at-most : collect m roots hints .refusal ≡ 0 → collect m roots hints .taken ≤ neededFor m hints
   unfolding acceptedCollect
   takes-at-most z =
       let e : refusalOfCollect m roots hints ≡ 0 = sym (collect-refusal m roots hints) ∙ z in
       rw (collect-accepts m roots hints e) (collect-finds m roots hints e .few)
 
   -- "this never exceeds the old figure": of any memory and hints
-  pub never-more : newFigure m hints ≤ oldFigure m hints
+  pub never-more : neededFor m hints ≤ oldFigure m hints
   never-more = needed-never-more m hints
 
   -- so 8 is given only where the old figure gave it

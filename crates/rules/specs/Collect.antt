@@ -24,10 +24,17 @@ pagesUnhinted m hints = count (isUnhinted m hints) (block 1 (m .rec .pages))
 unfoldable pub wordsUnhinted : Lent → List ℕ → ℕ
 wordsUnhinted m hints = sum (λ g. cond (isUnhinted m hints g) (wordsOn m g) 0) (block 1 (m .rec .pages))
 
+-- "the new figure" of these hints
+abbrev pub neededFor : Lent → List ℕ → ℕ
+neededFor m hints = pagesNeeded (m .rec .page) (wordsUnhinted m hints)
+
+-- N - k
+abbrev pub pagesFree : Lent → ℕ
+pagesFree m = m .rec .pages - 1 - pagesUsed (m .labels) 1 (m .rec .pages)
+
 -- not refused 8. Q-3: "8 is given exactly when the new figure exceeds N - k"
 unfoldable pub hasRoom : Lent → List ℕ → Bool
-hasRoom m hints =
-    not (ltb (m .rec .pages - 1 - pagesUsed (m .labels) 1 (m .rec .pages)) (pagesNeeded (m .rec .page) (wordsUnhinted m hints)))
+hasRoom m hints = not (ltb (pagesFree m) (neededFor m hints))
 
 -- the refusal's number, 0 if accepted: "Checks go by number, except that collect tests 1, 7, 6, 8."
 unfoldable pub refusalOfCollect : Lent → List ℕ → List ℕ → ℕ

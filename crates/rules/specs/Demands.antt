@@ -8,12 +8,12 @@ use Prim.Native.Nat.{ℕ, _+_, _/_, _≤_, _<_}
 use lib.ListN.{length}
 use Rattle.rules.specs.Ranges.{at}
 use Rattle.rules.specs.Header.{sizeOf}
-use Rattle.rules.specs.Pages.{pagesNamed, pagesNeeded}
+use Rattle.rules.specs.Pages.{pagesNamed}
 use Rattle.rules.specs.Lent.{Lent}
 use Rattle.rules.specs.Sound.{InUse, IsObject, Sound, refs, payload}
 use Rattle.rules.specs.Calls.{Outcome, start, allocate, lookUp, load, store}
 use Rattle.rules.specs.Collection.{plainly, collection}
-use Rattle.rules.specs.Collect.{CollectOutcome, collect, wordsUnhinted}
+use Rattle.rules.specs.Collect.{CollectOutcome, collect, neededFor}
 
 -- ---- demand 1: "Bad calls get a refusal number from the table; the value is then 0, and record and memory are as before."
 
@@ -129,7 +129,7 @@ pub record Faithful (m : Lent) (roots hints : List ℕ) (o : CollectOutcome) (Pa
 pub record FindsPages (m : Lent) (roots hints : List ℕ) (taken : List ℕ) : Type 0 where
   pub free : (g : ℕ) → List·Memᴰ g taken → (1 ≤ g) × (g < m .rec .pages) × (at (m .labels) g ≡ 0)
   pub distinct : (i j : ℕ) → i < length taken → j < length taken → at taken i ≡ at taken j → i ≡ j
-  pub few : length taken ≤ pagesNeeded (m .rec .page) (wordsUnhinted m hints)
+  pub few : length taken ≤ neededFor m hints
 
 -- demand 3
 pub record Demand3 : Type 1 where

@@ -9,33 +9,29 @@ use lib.Dec.{ltb}
 use lib.ListN.{length}
 use borrow.Author.Tests.{ltb-false}
 use Rattle.rules.specs.Ranges.{at, each}
-use Rattle.rules.specs.Pages.{pagesUsed, pagesNeeded}
 use Rattle.rules.specs.Lent.{Lent, isValid}
 use Rattle.rules.specs.Walk.{isReference}
 use Rattle.rules.specs.Sound.{isSound, IsObject, Sound}
-use Rattle.rules.specs.Collect.{wordsUnhinted, hasRoom, refusalOfCollect}
+use Rattle.rules.specs.Collect.{neededFor, pagesFree, hasRoom, refusalOfCollect}
 use Rattle.laws.specs.Lists.{each-true}
 use Rattle.laws.specs.LookUp.{reference-says}
 use Rattle.laws.specs.Sound.{sound-says}
 use Rattle.laws.specs.FreePages.{freePages, used-and-free}
 use Rattle.theory.specs.Sums.{at-mem}
 
-abbrev needed : Lent → List ℕ → ℕ
-needed m hints = pagesNeeded (m .rec .page) (wordsUnhinted m hints)
-
 pub record Accepted (m : Lent) (roots hints : List ℕ) : Type 0 where
   pub sound : Sound m
   pub rootCells : (j : ℕ) → j < length roots → (at roots j ≡ 0) ⊎ IsObject m (at roots j)
-  pub room : needed m hints ≤ freePages (m .labels) 1 (m .rec .pages)
+  pub room : neededFor m hints ≤ freePages (m .labels) 1 (m .rec .pages)
 
-room-says : (m : Lent) (hints : List ℕ) → hasRoom m hints ≡ true → needed m hints ≤ freePages (m .labels) 1 (m .rec .pages)
+room-says : (m : Lent) (hints : List ℕ) → hasRoom m hints ≡ true → neededFor m hints ≤ freePages (m .labels) 1 (m .rec .pages)
 unfolding hasRoom
-room-says m hints e = go (ltb (m .rec .pages - 1 - pagesUsed (m .labels) 1 (m .rec .pages)) (needed m hints)) refl e
+room-says m hints e = go (ltb (pagesFree m) (neededFor m hints)) refl e
   where
-    go : (b : Bool) → ltb (m .rec .pages - 1 - pagesUsed (m .labels) 1 (m .rec .pages)) (needed m hints) ≡ b → not b ≡ true
-        → needed m hints ≤ freePages (m .labels) 1 (m .rec .pages)
+    go : (b : Bool) → ltb (pagesFree m) (neededFor m hints) ≡ b → not b ≡ true
+        → neededFor m hints ≤ freePages (m .labels) 1 (m .rec .pages)
     go false q t =
-        let h : needed m hints ≤ m .rec .pages - 1 - pagesUsed (m .labels) 1 (m .rec .pages) = ltb-false _ _ q in
+        let h : neededFor m hints ≤ pagesFree m = ltb-false _ _ q in
         omega (arith, used-and-free (m .labels) 1 (m .rec .pages))
     go true q t = absurd (true≢false (sym t))
 

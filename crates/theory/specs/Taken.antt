@@ -9,11 +9,11 @@ use native.Mathlib.Omega.{arith}
 use lib.ListN.{length, drop, length-drop}
 use lib.Seq.{getD-drop}
 use Rattle.rules.specs.Ranges.{at}
-use Rattle.rules.specs.Pages.{otherLabel, pagesNeeded}
+use Rattle.rules.specs.Pages.{otherLabel}
 use Rattle.rules.specs.Lent.{Lent}
 use Rattle.rules.specs.Sound.{Sound}
 use Rattle.rules.specs.Collection.{State, planOf, collection}
-use Rattle.rules.specs.Collect.{wordsUnhinted}
+use Rattle.rules.specs.Collect.{neededFor}
 use Rattle.rules.specs.Demands.{FindsPages}
 use Rattle.theory.specs.Sums.{mem-at}
 use Rattle.theory.specs.World.{World}
@@ -85,7 +85,7 @@ module _ (m : Lent) (roots hints : List ℕ) (A : Accepted m roots hints) where
       go (inl e) = e
       go (inr e) = absurd (used (used-kind m roots hints A g e))
 
-  taken-words : length taken ≤ pagesNeeded (m .rec .page) (wordsUnhinted m hints)
+  taken-words : length taken ≤ neededFor m hints
   unfolding world planOf
   taken-words =
       let G = all-done m roots hints A .good in

@@ -9,7 +9,7 @@ use lib.Dec.{leb, ltb}
 use borrow.Author.Tests.{ltb-true, ltb-false, le-leb, lt-leb}
 use Rattle.rules.specs.Pages.{isPageSize, pagesUsed, pagesNeeded, pagesNeededToC}
 use Rattle.rules.specs.Lent.{Lent, lent}
-use Rattle.rules.specs.Collect.{wordsUnhinted, hasRoom}
+use Rattle.rules.specs.Collect.{wordsUnhinted, neededFor, pagesFree, hasRoom}
 use Rattle.laws.specs.Pages.{power-size, heap-fits}
 use Rattle.laws.specs.Room.{needed-more, words-used}
 use Rattle.laws.specs.Valid.{Layout, valid-laid, valid-says}
@@ -39,9 +39,9 @@ at-most a b = go (ltb b a) refl
 
 module _ (m : Lent) (hints : List ℕ) (used : ℕ) (e : used ≡ pagesUsed (m .labels) 1 (m .rec .pages)) where
   -- the test, by what was counted
-  room-is : (needed : ℕ) → needed ≡ pagesNeeded (m .rec .page) (wordsUnhinted m hints) → leb needed (m .rec .pages - 1 - used) ≡ hasRoom m hints
+  room-is : (needed : ℕ) → needed ≡ neededFor m hints → leb needed (m .rec .pages - 1 - used) ≡ hasRoom m hints
   unfolding hasRoom
-  room-is needed f = rw (e, f) (at-most (pagesNeeded (m .rec .page) (wordsUnhinted m hints)) (m .rec .pages - 1 - pagesUsed (m .labels) 1 (m .rec .pages)))
+  room-is needed f = rw (e, f) (at-most (neededFor m hints) (pagesFree m))
 
   -- where there is room for as many words as the pages in use have, hints and objects do not matter
   room-all : pagesNeeded (m .rec .page) (used * m .rec .page) ≤ m .rec .pages - 1 - used → hasRoom m hints ≡ true
