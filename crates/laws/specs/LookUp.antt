@@ -1,5 +1,4 @@
--- Laws of object starts and of what is found: the tests and the propositions agree, and what a walk that remembers the last object
--- not above an address finds there.
+-- Laws of object starts and of what is found: the tests and the propositions agree.
 use mathlib.Core.Path.{_≡_, refl, sym, ap, _∙_}
 use mathlib.Core.Logic.{_≢_, _⊎_, inl, inr}
 use mathlib.Core.Bool.{Bool, true, false, cond, _&&_, _||_, true≢false, and-false}
@@ -7,23 +6,21 @@ use mathlib.Core.List.{List, [], _∷_}
 use Prim.Native.Nat.{ℕ, _+_, _*_, _-_, _/_, _≤_, _<_}
 use native.Mathlib.Nat.{div-zero}
 use native.Mathlib.Omega.{arith}
-use native.Mathlib.Decide.{decLt, ℕ-discrete}
 use lib.ListN.{length, List·getD-eq-default}
 use lib.Dec.{eqb, leb, ltb}
-use borrow.Author.Tests.{eqb-true, eqb-false, leb-true, ltb-true, eq-eqb, ne-eqb, le-leb, lt-leb, lt-ltb, le-ltb}
+use borrow.Author.Tests.{eqb-true, leb-true, ltb-true, eq-eqb, ne-eqb, le-leb, lt-leb, lt-ltb, le-ltb}
 use Rattle.rules.specs.declared.Found.{Found}
 use Rattle.rules.specs.declared.Found.the-variants.{Start, Inside, Nothing}
 use Rattle.rules.specs.Tests.{and-left, and-right, and-is}
 use Rattle.rules.specs.Ranges.{at, has}
 use Rattle.rules.specs.Header.{sizeOf, refsOf, isHeader}
 use Rattle.rules.specs.Lent.{Lent}
-use Rattle.rules.specs.Walk.{behind, starts, isInUse, isStart, isReference, landing, found}
+use Rattle.rules.specs.Walk.{starts, isInUse, isStart, isReference, landing, found}
 use Rattle.rules.specs.Sound.{InUse, IsObject}
 use Rattle.laws.specs.Lists.{has-mem, mem-has}
-use Rattle.laws.specs.Headers.{header-says, header-full, header-zero}
-use Rattle.laws.specs.Pages.{page-on}
+use Rattle.laws.specs.Headers.{header-full, header-zero}
 use Rattle.laws.specs.Valid.{Layout, page-within}
-use Rattle.laws.specs.Walk.{size, Steps, stops, step, steps-upto, page-steps, met, objects, objects-end, objects-step, objects-steps, Onward, onward-begins, onward-on, onward-ends, starts-are}
+use Rattle.laws.specs.Walk.{Steps, step, page-steps, met}
 
 -- ---- the tests and the propositions agree
 
@@ -151,83 +148,10 @@ module _ (m : Lent) (a : ℕ) where
       start-word : {x y : ℕ} {f : Found} → f ≡ Start x → f ≡ Start y → y ≡ x
       start-word p q = cc
 
--- ---- the last object not above an address
-
-unfoldable pub lastUpTo : ℕ → ℕ → List ℕ → ℕ
-lastUpTo a s [] = s
-lastUpTo a s (x ∷ xs) = lastUpTo a (cond (leb x a) x s) xs
-
--- a is behind that object's start, or on it
-unfoldable pub landed : List ℕ → ℕ → ℕ → Found
-landed h a s = cond (eqb a s) (Start (at h s)) (Inside s)
-
-module _ (h : List ℕ) (a : ℕ) where
-  last-above : (s : ℕ) {b room z : ℕ} {l : List ℕ} → Steps h b room l z → a < b → lastUpTo a s l ≡ s
-  unfolding lastUpTo
-  last-above s (stops e) p = refl
-  last-above s (step {a = b} {room = room} e r) p = rw (lt-leb b a p) (last-above s r (omega arith))
-
-  -- before the stop a lands on the last object not above it or inside it; from the stop on it lands on nothing
-  pub landing-last : (s : ℕ) {b room z : ℕ} {l : List ℕ} → Steps h b room l z → b ≤ a → landing h a l ≡ cond (ltb a z) (landed h a (lastUpTo a s l)) Nothing
-  unfolding landing lastUpTo landed
-  landing-last s (stops {a = b} e) p = rw (le-ltb a b p)
-  landing-last s (step {a = b} {room = room} {z = z} {l = l} e r) p =
-      rw (le-leb b a p) (go (eqb a b) refl (decLt a (b + size h b)) (λ q. landing-last b r q) (steps-upto r .0))
-    where
-      go : (t : Bool) → eqb a b ≡ t → Dec (a < b + size h b)
-          → (b + size h b ≤ a → landing h a l ≡ cond (ltb a z) (landed h a (lastUpTo a b l)) Nothing) → b + size h b ≤ z
-          → cond t (Start (at h b)) (cond (ltb b a && ltb a (b + size h b)) (Inside b) (landing h a l)) ≡ cond (ltb a z) (landed h a (lastUpTo a b l)) Nothing
-      go true q (yes d) ih u = rw (lt-ltb a z (omega arith), last-above b r d, q)
-      go false q (yes d) ih u =
-          let n = eqb-false a b q in
-          rw (lt-ltb a z (omega arith), last-above b r d, q, lt-ltb b a (omega arith), lt-ltb a (b + size h b) d)
-      go true q (no d) ih u = let H = header-says (at h b) room e in absurd (let z = eqb-true a b q in omega (arith, H .shape))
-      go false q (no d) ih u = rw (and-no (ltb b a) _ (le-ltb a (b + size h b) (omega arith))) (ih (omega arith))
-
--- ---- the same as a loop over headers meets it: at `b`, with the last object so far
-
-pub record Walking (h : List ℕ) (base e a b last : ℕ) : Type 0 where
-  pub way : Onward h base e b
-  pub last′ : lastUpTo a last (objects h b e) ≡ lastUpTo a base (objects h base e)
-  pub begins : b ≡ base → last ≡ base
-  pub inside : base < b → last < length h
-  pub below : base ≤ a → last ≤ a
-
 -- no header stands at or past the page's end, or past the heap
 pub no-header : (h : List ℕ) (b e : ℕ) → (e ≤ b) ⊎ (length h ≤ b) → isHeader (at h b) (e - b) ≡ false
 no-header h b e (inl p) = let z : e - b ≡ 0 = omega arith in rw z (header-full (at h b))
 no-header h b e (inr p) = rw (List·getD-eq-default h 0 p) (header-zero (e - b))
-
-module _ (h : List ℕ) (base e a : ℕ) where
-  pub walking-begins : Walking h base e a base base
-  walking-begins = record { way = onward-begins h base e; last′ = refl; begins = λ p. refl; inside = λ p. absurd (omega arith); below = λ p. p }
-
-  module _ (b last : ℕ) (W : Walking h base e a b last) where
-    pub walking-ends : isHeader (at h b) (e - b) ≡ false → (b ≡ behind h base (objects h base e)) × (last ≡ lastUpTo a base (objects h base e))
-    unfolding lastUpTo
-    walking-ends q = (onward-ends h base e b (W .way) q, rw (objects-end h b e q) at (W .last′))
-
-    pub walking-on : isHeader (at h b) (e - b) ≡ true → b < length h → (n last₁ : ℕ) → n ≡ size h b → last₁ ≡ cond (leb b a) b last → Walking h base e a (b + n) last₁
-    unfolding lastUpTo
-    walking-on q i n last₁ en el =
-        let z = objects-step h b e q in
-        let H = header-says _ _ q in
-        rw (en, el) (record {
-          way = onward-on h base e b (W .way) q;
-          last′ = rw z at (W .last′);
-          begins = λ p. absurd (omega (arith, W .way .from, H .shape));
-          inside = λ p. into (leb b a) (ℕ-discrete base b);
-          below = λ p. under (leb b a) refl (W .below p);
-        })
-      where
-        into : (t : Bool) → Dec (base ≡ b) → cond t b last < length h
-        into true d = i
-        into false (no d) = W .inside (omega (arith, W .way .from))
-        into false (yes d) = omega (arith, W .begins (sym d))
-
-        under : (t : Bool) → leb b a ≡ t → last ≤ a → cond t b last ≤ a
-        under true t l = leb-true b a t
-        under false t l = l
 
 -- ---- what is found, by cases, in the order of the code's tests
 
@@ -250,25 +174,3 @@ module _ (m : Lent) (a : ℕ) where
   pub look-label : at (m .labels) (a / m .rec .page) ≢ m .rec .label → found m a ≡ Nothing
   unfolding isInUse
   look-label h = nothing (simp (ne-eqb _ _ h, and-false))
-
-  -- on a page in use: base is its first word, z the walk's stop, s the last object not above a
-  module _ (u : InUse m (a / m .rec .page)) (base : ℕ) (is-base : base ≡ a / m .rec .page * m .rec .page)
-      (z s : ℕ) (is-stop : z ≡ behind (m .heap) base (objects (m .heap) base (base + m .rec .page)))
-      (is-last : s ≡ lastUpTo a base (objects (m .heap) base (base + m .rec .page))) (pos : 0 < m .rec .page) where
-    look-walked : found m a ≡ cond (ltb a z) (landed (m .heap) a s) Nothing
-    unfolding found
-    look-walked =
-        let st = objects-steps (m .heap) base (base + m .rec .page) in
-        rw (in-use-is m _ u, starts-are m (a / m .rec .page), sym is-base, is-stop, is-last)
-        (landing-last (m .heap) a base st (omega (arith, page-on pos a _ refl .0)))
-
-    pub look-past : z ≤ a → found m a ≡ Nothing
-    look-past h = look-walked ∙ rw (le-ltb a z h)
-
-    pub look-start : a < z → s ≡ a → found m a ≡ Start (at (m .heap) s)
-    unfolding landed
-    look-start h e = look-walked ∙ rw (lt-ltb a z h, eq-eqb a s (sym e))
-
-    pub look-inside : a < z → s ≢ a → found m a ≡ Inside s
-    unfolding landed
-    look-inside h e = look-walked ∙ rw (lt-ltb a z h, ne-eqb a s (λ q. e (sym q)))

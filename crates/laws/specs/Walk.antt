@@ -86,10 +86,6 @@ module _ (h : List ℕ) (a e : ℕ) where
       subst (λ (r : ℕ). Steps h b r (walk (e - b) h b (e - b)) (behind h b (walk (e - b) h b (e - b)))) z (steps (e - b) b (e - b) h (omega arith)) in
       steps-walk (step {a = a} {room = e - a} q rest) (e - a) (omega arith)
 
-  pub objects-steps : Steps h a (e - a) (objects h a e) (behind h a (objects h a e))
-  unfolding objects
-  objects-steps = steps (e - a) a (e - a) h (omega arith)
-
 -- ---- as a loop over headers meets it: the walk to e began at base, is at a, and will stop where all of it does
 
 pub record Onward (h : List ℕ) (base e a : ℕ) : Type 0 where

@@ -1,54 +1,56 @@
 // The walk of a page, and what is found at an address.
 use crate::record;
+use crate::tables;
 use numbers::header;
 use rules::Found;
 use rules::Record;
 ghost use mathlib.Core.Path.{_≡_};
-ghost use mathlib.Core.Bool.{cond};
 ghost use mathlib.Core.List.{List};
 ghost use Prim.Native.Nat.{ℕ, _+_, _≤_, _<_};
-ghost use lib.ListN.{length};
-ghost use lib.Dec.{leb};
 ghost use Rattle.rules.specs.Lent.{lent};
-ghost use Rattle.rules.specs.Walk.{behind, found, isStart, isReference};
+ghost use Rattle.rules.specs.Walk.{landing, found, isStart, isReference};
 ghost use Rattle.laws.specs.Walk.{objects};
-ghost use Rattle.laws.specs.LookUp.{lastUpTo};
 
-// A walk's stop, and the last object start that it met which is not above an address.
-pub struct Walked {
-    pub stop: usize,
-    pub last: usize,
-}
-
-// The later of two object starts, if it is not above the address.
-pub fn later(last: usize, at: usize, address: usize) -> usize
-    ensures { λ r. ⌜ r ≡ cond (leb at address) at last ⌝ }
+// What the walk of the page of `page` words from `base` on finds at an address on it. It leaves off as soon as the address is met or passed,
+// and reads no word above it. A place past the heap holds no header.
+fn walk(heap: &[u32], base: u32, page: u32, address: u32) -> Found
+    requires { ⌜ (base ≤ address) × (address < base + page) ⌝ }
+    ensures { λ x. ⌜ x ≡ landing (now (heap .entry)) address (objects (now (heap .entry)) base (base + page)) ⌝ }
 {
-    if at <= address { at } else { last }
-}
-
-// The walk from address `base` to the page's end. A place past the heap holds no header.
-pub fn walk(heap: &[u32], base: usize, end: usize, address: usize) -> Walked
-    ensures { λ r. ⌜ (r .stop ≡ behind (now (heap .entry)) base (objects (now (heap .entry)) base end)) × (r .last ≡ lastUpTo address base (objects (now (heap .entry)) base end)) ⌝ }
-    ensures { λ r. ⌜ ((base < r .stop → r .last < length (now (heap .entry))) × (base ≤ address → r .last ≤ address)) ⌝ }
-{
-    let mut at = base;
-    let mut last = base;
-    let stop = loop {
-        if end <= at {
-            break at;
-        }
-        if heap.len() <= at {
+    let a = address as usize;
+    let mut at = base as usize;
+    let mut last = at;
+    let near = tables::smaller(a, heap.len());
+    let left = loop {
+        if near <= at {
             break at;
         }
         let w = heap[at];
-        if !header::is_header(w, end - at) {
+        let n = header::size_of(w);
+        // Room for it is asked below: only an object that goes past the address may go past the page.
+        if !header::is_header(w, n) {
             break at;
         }
-        last = later(last, at, address);
-        at += header::size_of(w);
+        last = at;
+        at += n;
     };
-    Walked { stop, last }
+    let end = base as usize + page as usize;
+    if a < left {
+        if end < left {
+            return Found::Nothing;
+        }
+        return Found::Inside(last as u32);
+    }
+    if heap.len() <= left {
+        return Found::Nothing;
+    }
+    // Where it left off before the address no header stands, and none is found here.
+    let w = heap[left];
+    if header::is_header(w, end - left) {
+        Found::Start(w)
+    } else {
+        Found::Nothing
+    }
 }
 
 // What is found at an address: an object's start, the inside of an object, or nothing. The links play no part.
@@ -69,18 +71,7 @@ pub fn find(heap: &[u32], labels: &[u16], r: Record, address: u32) -> Found
     if record::label_at(labels, g as usize) != r.label {
         return Found::Nothing;
     }
-    let base = (g * page) as usize;
-    let a = address as usize;
-    let met = walk(heap, base, base + page as usize, a);
-    let stop = met.stop;
-    let last = met.last;
-    if stop <= a {
-        return Found::Nothing;
-    }
-    if last == a {
-        return Found::Start(heap[last]);
-    }
-    Found::Inside(last as u32)
+    walk(heap, g * page, page, address)
 }
 
 // An object starts at the address.
