@@ -112,39 +112,63 @@ static void bench_page(int calls, uint32_t repeats, uint32_t page, uint32_t page
   }
 }
 
-/* Load, store and look-up go over all objects of a page in turn, so that the object is half a page behind its first word at the mean. Look-up is
-   given the object's own address, or that of its last word, which is inside. */
+/* Load, store and look-up, each at all objects of a page in turn, or again and again at its first, middle or last one. Look-up is given the
+   object's own address, or that of its last word, which is inside. A reference is stored to the object in the same place of another page. */
 enum { loads, looks, insides, numbers, references, word_calls };
 static const char *const word_call_names[word_calls] = {"load", "look", "inside", "number", "reference"};
+enum { all, first, middle, last, places };
+static const char *const place_names[places] = {"all", "first", "middle", "last"};
 
-static void bench_word(const char *what, int calls, uint32_t repeats, uint32_t page, uint32_t d)
+static int named(const char *name, const char *const *names, int count)
 {
-  uint32_t i, n;
-  int call;
-  for (call = 0; call < word_calls && strcmp(what, word_call_names[call]) != 0; call++) /* once, so that it is not counted with the calls */
-    ;
-  if (call == word_calls) {
-    printf("no such workload\n");
-    exit(2);
-  }
+  int i;
+  for (i = 0; i < count; i++)
+    if (strcmp(name, names[i]) == 0)
+      return i;
+  printf("no such workload\n");
+  exit(2);
+}
+
+static void bench_word(const char *what, int calls, uint32_t repeats, uint32_t page, uint32_t d, const char *where)
+{
+  int call = named(what, word_call_names, word_calls), place = named(where, place_names, places);
+  uint32_t i, n, from, count;
   begin(page, 64);
-  fill_pages(2, page, d, 1);
+  fill_pages(2, page, d, call == references);
   n = made_len / 2;
+  from = place == middle ? n / 2 : place == last ? n - 1 : 0;
+  count = place == all ? n : 1;
   for (i = 0; i < repeats; i++) {
-    uint32_t object = made[i % n];
+    uint32_t nth = from + i % count, object = made[nth];
     if (calls) {
       if (call == loads)
-        counted(CALL(load)(LENT, object, 1), 0);
+        counted(CALL(load)(LENT, object, d - 1), 0);
       else if (call == looks)
         counted(CALL(look_up)(LENT, object), 0);
       else if (call == insides)
         counted(CALL(look_up)(LENT, object + d), FOUTERPIN_INSIDE);
       else if (call == numbers)
-        counted(CALL(store)(LENT, object, 1, i), 0);
+        counted(CALL(store)(LENT, object, d - 1, i), 0);
       else
-        counted(CALL(store)(LENT, object, 0, made[n + (i + n / 2) % n]), 0);
+        counted(CALL(store)(LENT, object, 0, made[n + nth]), 0);
     }
   }
+}
+
+/* By P and d. For one object of a page d is 1: then 8 words have four, and first, middle and last are three of them. How often it is made is a
+   multiple of the page's objects, so that `all` is at each of them as often as at any other. */
+static void list_words(void)
+{
+  static const uint32_t shapes[][2] = {{8, 3}, {128, 3}, {1024, 3}, {1024, 60}, {8, 1}, {128, 1}, {1024, 1}};
+  size_t i;
+  int call, place;
+  for (call = 0; call < word_calls; call++)
+    for (i = 0; i < sizeof shapes / sizeof *shapes; i++)
+      for (place = 0; place < places; place++) {
+        uint32_t page = shapes[i][0], d = shapes[i][1];
+        if ((place == all) == (d > 1))
+          printf("%d %s %" PRIu32 " %" PRIu32 " %s\n", page == 1024 ? 5120 : 20480, word_call_names[call], page, d, place_names[place]);
+      }
 }
 
 /* A live structure over a third of the pages; `crowded`, over half of them, so that only hints make room. `ends` are arrays, and the hints
@@ -218,11 +242,6 @@ static void bench_collect(const char *mode, uint32_t repeats, const char *shape,
 static const char *const workloads[] = {
   "20000 fits 8 2", "20000 fits 128 2", "20000 fits 1024 2", "5000 fits 1024 900",
   "5000 page 8 64", "1000 page 8 1024", "300 page 8 4096", "1000 page 128 1024",
-  "20000 load 8 3", "20000 load 128 3", "5000 load 1024 3", "5000 load 1024 60",
-  "20000 look 8 3", "20000 look 128 3", "5000 look 1024 3", "5000 look 1024 60",
-  "20000 inside 8 3", "20000 inside 128 3", "5000 inside 1024 3", "5000 inside 1024 60",
-  "20000 number 8 3", "20000 number 128 3", "5000 number 1024 3", "5000 number 1024 60",
-  "20000 reference 8 3", "20000 reference 128 3", "5000 reference 1024 3", "5000 reference 1024 60",
   "100 collect list 8 64 0", "20 collect list 128 64 0", "4 collect list 1024 64 0", "1 collect list 1024 1024 0",
   "4 collect list 128 1024 0", "2 collect list 128 4096 0", "10 collect list 8 4096 0",
   "20 collect shuffled 128 64 0", "4 collect shuffled 128 1024 0", "2 collect shuffled 128 4096 0",
@@ -244,6 +263,7 @@ int main(int argc, char **argv)
   int calls;
   uint32_t repeats;
   if (argc == 2 && strcmp(argv[1], "list") == 0) {
+    list_words();
     for (i = 0; i < sizeof workloads / sizeof *workloads; i++)
       puts(workloads[i]);
     return 0;
@@ -258,8 +278,10 @@ int main(int argc, char **argv)
     bench_page(calls, repeats, number(argv, 4), number(argv, 5));
   else if (strcmp(argv[3], "collect") == 0 && argc == 8)
     bench_collect(argv[1], repeats, argv[4], number(argv, 5), number(argv, 6), number(argv, 7));
+  else if (argc == 7)
+    bench_word(argv[3], calls, repeats, number(argv, 4), number(argv, 5), argv[6]);
   else
-    bench_word(argv[3], calls, repeats, number(argv, 4), number(argv, 5));
+    return fprintf(stderr, "no such workload\n"), 2;
   printf("%" PRIu64 "\n", sum);
   return 0;
 }

@@ -1,7 +1,7 @@
-/* plain.c: document 01's rules, with Q-1 to Q-3, as a C programmer would write them by hand for speed, to stand beside the proved library
+/* plain.c: document 01's rules, with Q-1 to Q-4, as a C programmer would write them by hand for speed, to stand beside the proved library
    in bench/run: the same tests, the same order of work and the same memory, nothing besides what is lent. Pages are found by a shift, the
-   free page of a collection by a cursor that only moves up, and the queue is the links in order of joining. It answers as the model does:
-   bench/run checks that before it counts. */
+   free page of a collection by a cursor that only moves up, and the queue is the links in order of joining. The walk to an address leaves off
+   there; the others go to the page's stop. It answers as the model does: bench/run checks that before it counts. */
 #include "plain.h"
 
 #include <string.h>
@@ -32,27 +32,22 @@ static inline uint32_t object_words(uint32_t word, uint32_t room)
   return (word & 1) != 0 && n <= room && (word & 0xffff) >> 1 < n ? n : 0;
 }
 
-/* The start of the object that the address is on or inside; 0 if nothing is there. Document 01's look-up walks the page to its stop, and so
-   the object is the last one met that starts no later than the address, unless the walk stopped before. With -DLEAVE_EARLY it leaves off
-   once the address is met or passed, as request Q-4 asks of the library: compare like with like. */
+/* The start of the object that the address is on or inside; 0 if nothing is there. The walk leaves off once the address is met or passed. An
+   object that ends no later than the address fits on the page, so only the one that goes past it is tested for that. */
 static inline uint32_t object_at(const uint32_t *heap, const uint16_t *labels, const fouterpin_record *r, unsigned shift, uint32_t address)
 {
-  uint32_t which = address >> shift, at, end, n, start = 0;
+  uint32_t which = address >> shift, at, end, n;
   if (which == 0 || which >= r->pages || labels[which] != r->label)
     return 0;
   at = which << shift;
   end = at + r->page;
-  while (at < end && (n = object_words(heap[at], end - at)) != 0) {
-#ifdef LEAVE_EARLY
-    if (address - at < n)
-      return at;
-#else
-    if (at <= address)
-      start = at;
-#endif
+  do {
+    n = object_words(heap[at], UINT16_MAX);
+    if (n == 0)
+      return 0;
     at += n;
-  }
-  return address < at ? start : 0;
+  } while (at <= address);
+  return at <= end ? at - n : 0;
 }
 
 static inline int is_reference(const uint32_t *heap, const uint16_t *labels, const fouterpin_record *r, unsigned shift, uint32_t word)
