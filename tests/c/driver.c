@@ -1,7 +1,6 @@
 /* driver.c: runs a script of library calls and prints an answer a line: the script language of tests/c/vectors/README.md.
 
-   Built over the archive, by the calls of include/fouterpin.h; with -DOVER_MODEL over tests/c/model.c; and with -DOVER_PLAIN over
-   bench/plain.c.
+   Built over the archive, by the calls of include/fouterpin.h; over the model; and over bench/plain.c (over.h).
    Every slice that a call is lent lies on a mapping of its own between two pages that may not be touched, in turn right before the one
    behind and right behind the one before; the bytes between slice and page are canaries, looked at after each call. Hints are lent on
    memory that can't be written, and for load and look-up so is everything. After a refusal all memory must be as it was. What load, store
@@ -16,6 +15,7 @@
 #define _POSIX_C_SOURCE 200809L
 #define _DEFAULT_SOURCE
 #include "demand3.h"
+#include "over.h"
 
 #include <inttypes.h>
 #include <signal.h>
@@ -24,25 +24,6 @@
 #include <string.h>
 #include <sys/mman.h>
 #include <unistd.h>
-
-#ifdef OVER_MODEL
-#include "model.h"
-#define CALL(name) model_##name
-typedef model_record record;
-typedef model_answer answer;
-typedef model_collected collected;
-#else
-#include "fouterpin.h"
-#ifdef OVER_PLAIN
-#include "plain.h"
-#define CALL(name) plain_##name
-#else
-#define CALL(name) fouterpin_##name
-#endif
-typedef fouterpin_record record;
-typedef fouterpin_answer answer;
-typedef fouterpin_collected collected;
-#endif
 
 /* How often each call gave each refusal: those of include/fouterpin.h, and any other. */
 enum { starts, allocs, loads, stores, looks, collects, pages_asked, befores_asked, needs_asked, calls };

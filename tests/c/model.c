@@ -1,6 +1,6 @@
 /* model.c: document 01's calls as a model in C, with requests Q-1 to Q-3 of document 02, written from the two alone, in their words and
    order, plain rather than fast. Nothing here was taken from the Rattle code; the tests compare the two. It assumes nothing of what it is
-   lent beyond true lengths.
+   lent beyond true lengths. Q-4 changes no answer, so the model does without it: its walks go on to the stop, as document 01's do.
    tests/c/mutants plants errors in this file by exact lines: a line changed here is changed there. */
 #include "model.h"
 
