@@ -1,6 +1,6 @@
 /* fouterpin.h: the calls of Fouterpin, a mostly-copying collected heap (Bartlett 1988), for C.
 
-   The functions are those of the crate `solver`; each is proved equal to document 01's rules, with Q-1 to Q-3, for every input.
+   The functions are those of the crate `solver`; each is proved equal to document 01's rules, with Q-1 to Q-4, for every input.
    `rt staticlib solver` writes the archive target/staticlib/libsolver.a, for x86-64 Linux. Of C's library it wants memset, memcpy and memmove
    at most, and no other; it allocates nothing, keeps no state between calls and never ends the program. Collect takes some 4.5 KB of stack,
    the others a few hundred bytes. A C program links it as it is:
@@ -104,7 +104,9 @@ fouterpin_answer fouterpin_allocate(uint32_t *heap, size_t heap_len, uint16_t *l
 /* Where `address` lands, which may be any word: accepted if it is an object's, which is then the value; refused with 10 if it is inside an
    object, on one of its payload words, and the value is that object's address; refused with 4 if it is neither: on page 0, on a page that is
    free, behind the last object of a page in use, or past the heap. So an address derived from an object's leads back to it, as long as it
-   has not gone past its end. Writes nothing. Refused: 1, 4, 10. */
+   has not gone past its end. Writes nothing. Refused: 1, 4, 10.
+   To tell what an address is, the headers on its page are read from the first up to the address, and no word behind it: here, in load and
+   store, and for a value that store takes for a reference. */
 fouterpin_answer fouterpin_look_up(const uint32_t *heap, size_t heap_len, const uint16_t *labels, size_t labels_len, const uint16_t *links,
                                    size_t links_len, fouterpin_record r, uint32_t address);
 
