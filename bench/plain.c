@@ -75,7 +75,7 @@ fouterpin_answer plain_start(uint32_t *heap, size_t heap_len, uint16_t *labels, 
                              fouterpin_record r, uint32_t page, uint32_t pages)
 {
   if (page == 0)
-    page = 128;
+    page = 64;
   if (!good_sizes(heap_len, labels_len, links_len, page, pages))
     return answer(FOUTERPIN_LAYOUT, 0, r);
   memset(heap, 0, heap_len * sizeof *heap);

@@ -1,6 +1,6 @@
 /* fouterpin.h: the calls of Fouterpin, a mostly-copying collected heap (Bartlett 1988), for C.
 
-   The functions are those of the crate `solver`; each is proved equal to document 01's rules, with Q-1 to Q-4, for every input.
+   The functions are those of the crate `solver`; each is proved equal to document 01's rules, with Q-1 to Q-5, for every input.
    `rt staticlib solver` writes the archive target/staticlib/libsolver.a, for x86-64 Linux. Of C's library it wants memset, memcpy and memmove
    at most, and no other; it allocates nothing, keeps no state between calls and never ends the program. Collect takes some 4.5 KB of stack,
    the others a few hundred bytes. A C program links it as it is:
@@ -90,8 +90,8 @@ typedef struct {
   fouterpin_record record;
 } fouterpin_collected;
 
-/* Begins a heap of `pages` pages of `page` words, 0 for 128: zeroes heap, labels and links, whatever they held. The record given may be
-   any; the one that comes back is the heap's first. Refused: 1. */
+/* Begins a heap of `pages` pages of `page` words, 0 for 64 (128 before Q-5): zeroes heap, labels and links, whatever they held. The record
+   given may be any; the one that comes back is the heap's first. Refused: 1. */
 fouterpin_answer fouterpin_start(uint32_t *heap, size_t heap_len, uint16_t *labels, size_t labels_len, uint16_t *links, size_t links_len,
                                  fouterpin_record r, uint32_t page, uint32_t pages);
 

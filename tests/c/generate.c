@@ -365,7 +365,7 @@ static uint32_t some_collect(uint32_t percent_good)
   return do_collect();
 }
 
-/* P from 8 to 1,024 and T from 3 on, small for the most part. Page 0 stands for a start's default. */
+/* P from 8 to 1,024 and T from 3 on, small for the most part. */
 static void choose_size(uint32_t *page, uint32_t *pages)
 {
   uint32_t r = below(100);
@@ -432,11 +432,13 @@ static void honest(void)
     rec.page = any_word();
     rec.label = below(4);
   }
-  if (chance(10)) { /* starts of sizes that are none, with lengths that fit them */
-    static const uint32_t sizes[][2] = {{8, 4097}, {2048, 3}, {4, 3}, {12, 4}, {8, 2}, {8, 0}};
-    for (i = 0; i < 6; i++) {
-      printf("mem %" PRIu32 " %" PRIu32 " %" PRIu32 "\nstart %" PRIu32 " %" PRIu32 "\n", sizes[i][0] * sizes[i][1], sizes[i][1], sizes[i][1],
-             sizes[i][0], sizes[i][1]);
+  if (chance(10)) {
+    /* Words lent for a page, T and P: sizes that are none, with lengths that fit them; then what P 0 means, and that no other P means it. */
+    static const uint32_t starts[][3] = {{8, 4097, 8}, {2048, 3, 2048}, {4, 3, 4}, {12, 4, 12}, {8, 2, 8}, {8, 0, 8},
+                                         {64, 3, 0}, {128, 3, 0}, {128, 3, 128}, {64, 3, 4}};
+    for (i = 0; i < sizeof starts / sizeof *starts; i++) {
+      printf("mem %" PRIu32 " %" PRIu32 " %" PRIu32 "\nstart %" PRIu32 " %" PRIu32 "\n", starts[i][0] * starts[i][1], starts[i][1],
+             starts[i][1], starts[i][2], starts[i][1]);
       calls_made++;
     }
   }
@@ -448,7 +450,7 @@ static void honest(void)
     i = any_word();
     do_start(i, any_word());
   }
-  do_start(page == 128 ? 0 : page, pages);
+  do_start(page == model_page_at_start(0) && chance(50) ? 0 : page, pages);
   objects_len = 0;
   steps = 30 + below(150);
   for (i = 0; i < steps; i++) {

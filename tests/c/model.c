@@ -1,4 +1,4 @@
-/* model.c: document 01's calls as a model in C, with requests Q-1 to Q-3 of document 02, written from the two alone, in their words and
+/* model.c: document 01's calls as a model in C, with requests Q-1 to Q-5 of document 02, written from the two alone, in their words and
    order, plain rather than fast. Nothing here was taken from the Rattle code; the tests compare the two. It assumes nothing of what it is
    lent beyond true lengths. Q-4 changes no answer, so the model does without it: its walks go on to the stop, as document 01's do.
    tests/c/mutants plants errors in this file by exact lines: a line changed here is changed there. */
@@ -31,6 +31,14 @@ static int good_page(uint32_t page)
     if (page == size)
       return 1;
   return 0;
+}
+
+/* "At start only", and Q-5: "From now on P = 0 at start means 64." */
+uint32_t model_page_at_start(uint32_t page)
+{
+  if (page == 0)
+    return 64;
+  return page;
 }
 
 /* T is 3 to 4,096. */
@@ -211,8 +219,7 @@ model_answer model_start(uint32_t *heap, size_t heap_len, uint16_t *labels, size
                          model_record r, uint32_t page, uint32_t pages)
 {
   size_t i;
-  if (page == 0)
-    page = 128;
+  page = model_page_at_start(page);
   if (!good_page(page) || !good_pages(pages) || !good_lengths(heap_len, labels_len, links_len, page, pages))
     return answer(layout, 0, r);
   for (i = 0; i < heap_len; i++)

@@ -1,4 +1,4 @@
-/* model.h: the calls of document 01, with Q-1 to Q-3, as a plain model in C, written from the words alone. See model.c. The types have the
+/* model.h: the calls of document 01, with Q-1 to Q-5, as a plain model in C, written from the words alone. See model.c. The types have the
    fields of include/fouterpin.h's, so that one driver speaks to both. */
 #ifndef MODEL_H
 #define MODEL_H
@@ -35,5 +35,6 @@ model_collected model_collect(uint32_t *heap, size_t heap_len, uint16_t *labels,
 uint32_t model_page_named(uint32_t word, uint32_t page, uint32_t pages);
 uint32_t model_page_named_before(uint32_t word, uint32_t page, uint32_t pages);
 uint32_t model_pages_needed(uint32_t words, uint32_t page);
+uint32_t model_page_at_start(uint32_t page); /* the words to a page that a start's P means; no call of its own */
 
 #endif

@@ -26,7 +26,7 @@ static model_answer start(uint32_t page, uint32_t pages)
 {
   static uint32_t fresh_heap[1024 * most_pages];
   static uint16_t fresh_labels[most_pages], fresh_links[most_pages];
-  uint32_t words = page == 0 ? 128 : page;
+  uint32_t words = model_page_at_start(page);
   model_answer a;
   if (words > 1024)
     words = 0; /* refused 1 whatever is lent */

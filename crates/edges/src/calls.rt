@@ -13,7 +13,7 @@ fn none() -> Record {
     }
 }
 
-// The refusal of a start with this P and T, on memory of the lengths that they ask for.
+// The refusal of a start with this P and T, and the record after it.
 fn start(
     asked: &[u8],
     heap: &mut [u32],
@@ -21,9 +21,15 @@ fn start(
     links: &mut [u16],
     page: u32,
     pages: u32,
-) {
+) -> Record {
     let a = heap::start(heap, labels, links, none(), page, pages);
     line(asked, a.refusal as u64);
+    a.rec
+}
+
+// A start of three pages.
+fn three(asked: &[u8], heap: &mut [u32], page: u32) -> Record {
+    start(asked, heap, &mut [7u16; 3], &mut [7u16; 3], page, 3)
 }
 
 pub fn starts() {
@@ -51,14 +57,7 @@ pub fn starts() {
         8,
         2,
     );
-    start(
-        b"refusal of a start with T 3: ",
-        &mut [7u32; 24],
-        &mut [7u16; 3],
-        &mut [7u16; 3],
-        8,
-        3,
-    );
+    three(b"refusal of a start with T 3: ", &mut [7u32; 24], 8);
 }
 
 // The refusal of an allocation, and the record after it.
@@ -74,6 +73,47 @@ fn allocate(
     let a = heap::allocate(heap, labels, links, r, d, p);
     line(asked, a.refusal as u64);
     a.rec
+}
+
+// The refusal of an object of d payload words, the first on a heap of three pages.
+fn first(asked: &[u8], heap: &mut [u32], r: Record, d: u32) {
+    allocate(asked, heap, &mut [0u16; 3], &[0u16; 3], r, d, 0);
+}
+
+// What P = 0 at a start means, on memory of 64 words a page and of 128; and a record as such a start gave it before Q-5.
+pub fn defaults() {
+    let r = three(
+        b"* refusal of a start with P 0 on 64 words a page: ",
+        &mut [7u32; 192],
+        0,
+    );
+    three(
+        b"* refusal of a start with P 0 on 128 words a page: ",
+        &mut [7u32; 384],
+        0,
+    );
+    three(
+        b"* refusal of a start with P 128 on them: ",
+        &mut [7u32; 384],
+        128,
+    );
+    line(b"* page size that P 0 means: ", r.page as u64);
+    first(b"* refusal of d 63 with it: ", &mut [0u32; 192], r, 63);
+    first(b"* refusal of d 64: ", &mut [0u32; 192], r, 64);
+    let older = Record {
+        page: 128,
+        pages: 3,
+        label: 1,
+        opened: 0,
+        fill: 128,
+    };
+    first(
+        b"* refusal of d 127 with a record of P 128: ",
+        &mut [0u32; 384],
+        older,
+        127,
+    );
+    first(b"* refusal of d 128: ", &mut [0u32; 384], older, 128);
 }
 
 // P 8, T 6, so that N is 5.

@@ -1,5 +1,5 @@
-// Document 01's edges and those of Q-1 to Q-3, run on the code: a line for each, what was asked and what it answers. Its stdout is
-// what the papers say. The starred ones are also one table under one theorem (rules/specs/Edges.antt).
+// Document 01's edges and those of Q-1 to Q-3 and of Q-5, run on the code: a line for each, what was asked and what it answers.
+// Its stdout is what the papers say. The starred ones are also one table under one theorem (rules/specs/Edges.antt).
 mod calls;
 
 // A line: the question and its answer.
@@ -63,4 +63,5 @@ fn main() {
     calls::collections();
     calls::boundaries();
     calls::landings();
+    calls::defaults();
 }

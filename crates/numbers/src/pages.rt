@@ -31,7 +31,7 @@ pub fn is_shape(page: u32, pages: u32) -> bool
 pub fn page_at_start(page: u32) -> u32
     ensures { λ r. ⌜ r ≡ pageAtStart page ⌝ }
 {
-    if page == 0 { 128 } else { page }
+    if page == 0 { 64 } else { page }
 }
 
 // The page from lo to hi - 1 that the word names, 0 for none.

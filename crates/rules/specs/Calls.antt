@@ -57,7 +57,7 @@ started m P T = record {
   rec = record { page = P; pages = T; label = 1; opened = 0; fill = P };
 }
 
--- "start takes any record"; "at start only, P = 0 means 128 words"
+-- "start takes any record"; lengths and record go by the page size that P means
 unfoldable pub start : Lent → ℕ → ℕ → Outcome
 start m P T = unless (isLaid m (pageAtStart P) T) 1 m (accepted 0 (started m (pageAtStart P) T))
 

@@ -1,5 +1,5 @@
--- The starred edges of document 01, and those of Q-1 to Q-3: one table, and one theorem that antt computes. The program `edges` runs
--- the same on the code.
+-- The starred edges of document 01, those of Q-1 to Q-3 and of Q-5: one table, and one theorem that antt computes. The program `edges`
+-- runs the same on the code.
 use mathlib.Core.Path.{_≡_, refl, ap, _∙_, sym}
 use mathlib.Core.Logic.{_⊎_, inl, inr}
 use mathlib.Core.Bool.{Bool, true, _&&_}
@@ -14,7 +14,7 @@ use Rattle.rules.specs.Pages.{isPageSize, pageAtStart, isShape, pageName
 use Rattle.rules.specs.Lent.{Lent, isLaidOut, isLabel, isOpen, isValid}
 use Rattle.rules.specs.Walk.{walk, starts, isInUse, landing, found}
 use Rattle.rules.specs.Calls.{refused, inside, accepted, start, withObject, allocate, lookUp, load, store}
-use Rattle.rules.specs.Examples.{fresh}
+use Rattle.rules.specs.Examples.{held, fresh, older}
 
 -- P 8, T 6, so that N is 5, with k pages in use, each full
 unfoldable pub used1 : Lent
@@ -22,6 +22,10 @@ used1 = allocate fresh 7 0 .lent
 
 unfoldable pub used2 : Lent
 used2 = allocate used1 7 0 .lent
+
+-- Q-5: T 3 under the default
+unfoldable pub default : Lent
+default = start (held 64 3) 0 3 .lent
 
 -- a row: what is asked, and the answer
 pub record Edge : Type 0 where
@@ -60,6 +64,11 @@ edges =
     ∷ edge (lookUp used1 7 .refusal) 4 ∷ edge (lookUp used1 7 .value) 0
     ∷ edge (load used1 15 0 .refusal) 10 ∷ edge (load used1 15 0 .value) 8
     ∷ edge (store used1 15 0 0 .refusal) 10 ∷ edge (store used1 15 0 0 .value) 8
+    -- Q-5: "P = 0 at start means 64 .. under the default, the lengths of 1, the size of 2 .. are read with 64. Named sizes and
+    -- older records are as before."
+    ∷ edge (start (held 64 3) 0 3 .refusal) 0 ∷ edge (default .rec .page) 64 ∷ edge (start (held 128 3) 0 3 .refusal) 1
+    ∷ edge (allocate default 63 0 .refusal) 0 ∷ edge (allocate default 64 0 .refusal) 2
+    ∷ edge (start (held 128 3) 128 3 .refusal) 0 ∷ edge (allocate older 127 0 .refusal) 0 ∷ edge (allocate older 128 0 .refusal) 2
     ∷ []
 
 unfoldable hold : List Edge → Bool
@@ -67,7 +76,7 @@ hold [] = true
 hold (e ∷ es) = eqb (e .asked) (e .answer) && hold es
 
 computed : hold edges ≡ true
-unfolding hold edges used1 used2 fresh from block has count first headerOf isPageSize pageAtStart isShape pageNamed pageNamedBefore pagesOfHint isFree lowestFree pagesUsed pagesNeeded pageNamedToC pageNamedBeforeToC pagesNeededToC isLaidOut isLabel isOpen isValid sizeOf refsOf isHeader walk starts isInUse landing found refused inside accepted start withObject allocate lookUp load store
+unfolding hold edges used1 used2 default older fresh from block has count first headerOf isPageSize pageAtStart isShape pageNamed pageNamedBefore pagesOfHint isFree lowestFree pagesUsed pagesNeeded pageNamedToC pageNamedBeforeToC pagesNeededToC isLaidOut isLabel isOpen isValid sizeOf refsOf isHeader walk starts isInUse landing found refused inside accepted start withObject allocate lookUp load store
 computed = refl
 
 row : (es : List Edge) → hold es ≡ true → (e : Edge) → List·Memᴰ e es → e .asked ≡ e .answer

@@ -16,9 +16,13 @@ use Rattle.rules.specs.Calls.{refused, inside, accepted, start, withObje
 use Rattle.rules.specs.Collection.{hintPage, hintPages, takePage, withRoom, top, put, copyObject, forward, forwardRoots, sweepReference, sweepReferences, sweepPage, sweepQueue, freedLabels, freedHeap, planOf, begun, afterHints, afterRoots, afterSweep, collection}
 use Rattle.rules.specs.Collect.{isUnhinted, pagesUnhinted, wordsUnhinted, hasRoom, refusalOfCollect, CollectOutcome, refusedCollect, acceptedCollect, collect}
 
--- P 8, T 6, on memory that held something else
+-- memory of T pages of P words that held something else
+abbrev pub held : ℕ → ℕ → Lent
+held P T = record { heap = replicate (T * P) 7; labels = replicate T 7; links = replicate T 7; rec = record { page = 0; pages = 0; label = 0; opened = 0; fill = 0 } }
+
+-- P 8, T 6
 unfoldable pub fresh : Lent
-fresh = start (record { heap = replicate 48 7; labels = replicate 6 7; links = replicate 6 7; rec = record { page = 0; pages = 0; label = 0; opened = 0; fill = 0 } }) 8 6 .lent
+fresh = start (held 8 6) 8 6 .lent
 
 -- document 01's session: what is lent after records 4, 6, 8 and 14
 unfoldable after4 : Lent
@@ -38,7 +42,7 @@ record14 = collect (record8 .lent) roots8 (34 ∷ 24 ∷ [])
 
 -- P 8, T 5: with one page in use N is 4, and 3k + 2 is 5
 unfoldable small : Lent
-small = allocate (start (record { heap = replicate 40 7; labels = replicate 5 7; links = replicate 5 7; rec = fresh .rec }) 8 5 .lent) 7 0 .lent
+small = allocate (start (held 8 5) 8 5 .lent) 7 0 .lent
 
 -- an object with a reference to itself, and a data word that looks like an address
 unfoldable itself : Lent
@@ -52,7 +56,7 @@ across = store (allocate (allocate fresh 7 1 .lent) 1 0 .lent) 8 0 16 .lent
 -- second begins
 unfoldable boundary : Lent
 boundary =
-    let started = start (record { heap = replicate 96 7; labels = replicate 12 7; links = replicate 12 7; rec = fresh .rec }) 8 12 .lent in
+    let started = start (held 8 12) 8 12 .lent in
     let made = allocate (allocate (allocate (allocate started 7 1 .lent) 7 1 .lent) 2 0 .lent) 2 0 .lent in
     store (store made 8 0 24 .lent) 16 0 27 .lent
 
@@ -62,6 +66,10 @@ spread = collect (allocate (allocate (allocate fresh 3 0 .lent) 3 0 .lent) 4 0 .
 
 unfoldable scattered : List ℕ
 scattered = 24 ∷ 32 ∷ 40 ∷ []
+
+-- Q-5: what a start with P 0 and T 3 left before, "older records" among it
+unfoldable pub older : Lent
+older = record { heap = replicate 384 0; labels = replicate 3 0; links = replicate 3 0; rec = record { page = 128; pages = 3; label = 1; opened = 0; fill = 128 } }
 
 record Examples : Type 0 where
   -- header words: d 1 and p 1 with just enough room; p = n, n = 0, an even word, too little room
@@ -77,8 +85,8 @@ record Examples : Type 0 where
   found-inside : found after6 15 ≡ Inside 12
   found-nothing : found (allocate fresh 3 1 .lent) 12 ≡ Nothing
   found-page0 : found after6 0 ≡ Nothing
-  -- a start, and P = 0
-  default : start (record { heap = replicate 384 7; labels = replicate 3 7; links = replicate 3 7; rec = fresh .rec }) 0 3 .lent .rec .page ≡ 128
+  -- Q-5: whoever names 128 has what the default was
+  named : start (held 128 3) 128 3 .lent ≡ older
   -- 3k + 2 is one too many
   k1 : allocate small 7 0 .refusal ≡ 3
   -- records 1 to 4, 7: the addresses, and the refusal
@@ -139,7 +147,7 @@ record Examples : Type 0 where
   store-reference : (store after6 8 0 13 .refusal ≡ 6) × (store after6 8 0 13 .value ≡ 0)
 
 examples : Examples
-unfolding from block each has count sum first headerOf sizeOf refsOf isHeader isPageSize pageAtStart isShape pageNamed pageNamedBefore pagesOfHint pagesNamed isFree lowestFree pagesUsed pagesNeeded otherLabel isLaidOut isLabel isOpen isValid walk behind starts stop wordsOn isInUse isStart isReference landing found isBlank refsGood isUsedSound isPageSound isFillSound isSound refused inside accepted start withObject allocate lookUp load mayStore store hintPage hintPages takePage withRoom top put copyObject forward forwardRoots sweepReference sweepReferences sweepPage sweepQueue freedLabels freedHeap planOf begun afterHints afterRoots afterSweep collection isUnhinted pagesUnhinted wordsUnhinted hasRoom refusalOfCollect refusedCollect acceptedCollect collect fresh small after4 after6 record8 roots8 record14 itself across boundary spread scattered
+unfolding older from block each has count sum first headerOf sizeOf refsOf isHeader isPageSize pageAtStart isShape pageNamed pageNamedBefore pagesOfHint pagesNamed isFree lowestFree pagesUsed pagesNeeded otherLabel isLaidOut isLabel isOpen isValid walk behind starts stop wordsOn isInUse isStart isReference landing found isBlank refsGood isUsedSound isPageSound isFillSound isSound refused inside accepted start withObject allocate lookUp load mayStore store hintPage hintPages takePage withRoom top put copyObject forward forwardRoots sweepReference sweepReferences sweepPage sweepQueue freedLabels freedHeap planOf begun afterHints afterRoots afterSweep collection isUnhinted pagesUnhinted wordsUnhinted hasRoom refusalOfCollect refusedCollect acceptedCollect collect fresh small after4 after6 record8 roots8 record14 itself across boundary spread scattered
 examples = record {
   header = refl;
   header-refs = refl;
@@ -152,7 +160,7 @@ examples = record {
   found-inside = refl;
   found-nothing = refl;
   found-page0 = refl;
-  default = refl;
+  named = refl;
   k1 = refl;
   r1 = refl;
   r4 = refl;

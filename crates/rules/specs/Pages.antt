@@ -12,9 +12,9 @@ pageSizes = 8 ∷ 16 ∷ 32 ∷ 64 ∷ 128 ∷ 256 ∷ 512 ∷ 1024 ∷ []
 unfoldable pub isPageSize : ℕ → Bool
 isPageSize P = has P pageSizes
 
--- "at start only, P = 0 means 128 words"
+-- "at start only", and Q-5: "From now on P = 0 at start means 64."
 unfoldable pub pageAtStart : ℕ → ℕ
-pageAtStart P = cond (eqb P 0) 128 P
+pageAtStart P = cond (eqb P 0) 64 P
 
 -- "P is a power of two from 8 to 1,024 .. T is 3 to 4,096."
 unfoldable pub isShape : ℕ → ℕ → Bool
