@@ -1,4 +1,4 @@
-/* plain.c: document 01's rules, with Q-1 to Q-4, as a C programmer would write them by hand for speed, to stand beside the proved library
+/* plain.c: document 01's rules, with Q-1 to Q-5, as a C programmer would write them by hand for speed, to stand beside the proved library
    in bench/run: the same tests, the same order of work and the same memory, nothing besides what is lent. Pages are found by a shift, the
    free page of a collection by a cursor that only moves up, and the queue is the links in order of joining. The walk to an address leaves off
    there; the others go to the page's stop. It answers as the model does: bench/run checks that before it counts. */

@@ -64,8 +64,8 @@ edges =
     ∷ edge (lookUp used1 7 .refusal) 4 ∷ edge (lookUp used1 7 .value) 0
     ∷ edge (load used1 15 0 .refusal) 10 ∷ edge (load used1 15 0 .value) 8
     ∷ edge (store used1 15 0 0 .refusal) 10 ∷ edge (store used1 15 0 0 .value) 8
-    -- Q-5: "P = 0 at start means 64 .. under the default, the lengths of 1, the size of 2 .. are read with 64. Named sizes and
-    -- older records are as before."
+    -- Q-5: "P = 0 at start means 64 .. Named sizes and older records are as before. Refusals: under the default, the lengths of 1,
+    -- the size of 2 .. are read with 64."
     ∷ edge (start (held 64 3) 0 3 .refusal) 0 ∷ edge (default .rec .page) 64 ∷ edge (start (held 128 3) 0 3 .refusal) 1
     ∷ edge (allocate default 63 0 .refusal) 0 ∷ edge (allocate default 64 0 .refusal) 2
     ∷ edge (start (held 128 3) 128 3 .refusal) 0 ∷ edge (allocate older 127 0 .refusal) 0 ∷ edge (allocate older 128 0 .refusal) 2
