@@ -171,17 +171,21 @@ static void list_words(void)
       }
 }
 
-/* A live structure over a third of the pages; `crowded`, over half of them, so that only hints make room. `ends` are arrays, and the hints
-   are words just past a page. `remnants` are a list over an eighth of each of three quarters of the pages: there is room for their words, and
-   would be none for full pages. */
+/* A live structure over a third of the pages; `crowded`, one live object with half of them in use. `ends` are arrays, and the hints are words just
+   past a page. `remnants` are a list over an eighth of each of three quarters of the pages: there is room for their words, and would be none for
+   full pages. `full` and `scattered` are a list over seven eighths of the pages, so that most are kept: in order, where pages are copied
+   whole or kept whole, and shuffled, where each kept page has lost a part of its objects and fillers are left. */
 static void build(const char *shape, uint32_t page, uint32_t pages)
 {
   uint32_t i, used = pages / 3 - 1;
   begin(page, pages);
   roots_len = 1;
-  if (strcmp(shape, "list") == 0 || strcmp(shape, "shuffled") == 0 || strcmp(shape, "remnants") == 0) {
+  if (strcmp(shape, "list") == 0 || strcmp(shape, "shuffled") == 0 || strcmp(shape, "remnants") == 0 || strcmp(shape, "full") == 0 ||
+      strcmp(shape, "scattered") == 0) {
     if (shape[0] == 'r')
       fill_pages(pages / 4 * 3, page / 8, 3, 1);
+    else if (shape[0] == 'f' || shape[1] == 'c')
+      fill_pages(pages / 8 * 7, page, 3, 1);
     else
       fill_pages(used, page, 3, 1);
     if (shape[0] == 's')
@@ -235,6 +239,7 @@ static void bench_collect(const char *mode, uint32_t repeats, const char *shape,
         exit(1);
       }
       sum += c.hinted + 3 * (uint64_t)c.taken + 5 * (uint64_t)c.objects + 7 * (uint64_t)c.words + roots[0];
+      sum += 11 * (uint64_t)c.kept + 13 * (uint64_t)c.fillers;
     }
   }
 }
@@ -253,6 +258,8 @@ static const char *const workloads[] = {
   "20 collect crowded 128 64 256", "4 collect crowded 128 1024 8192", "2 collect crowded 128 4096 8192",
   "20 collect remnants 32 1024 0", "20 collect remnants 128 64 0", "4 collect remnants 128 1024 0", "4 collect remnants 128 1024 256",
   "2 collect remnants 128 4096 0", "2 collect remnants 1024 1024 0",
+  "100 collect full 8 64 0", "20 collect full 128 64 0", "4 collect full 128 1024 0",
+  "100 collect scattered 8 64 0", "20 collect scattered 128 64 0", "4 collect scattered 128 1024 0", "4 collect scattered 128 1024 256",
 };
 
 static uint32_t number(char **argv, int at) { return (uint32_t)strtoul(argv[at], NULL, 10); }

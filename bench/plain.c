@@ -1,4 +1,4 @@
-/* plain.c: document 01's rules, with Q-1 to Q-5, as a C programmer would write them by hand for speed, to stand beside the proved library
+/* plain.c: document 01's rules, with Q-1 to Q-6, as a C programmer would write them by hand for speed, to stand beside the proved library
    in bench/run: the same tests, the same order of work and the same memory, nothing besides what is lent. Pages are found by a shift, the
    free page of a collection by a cursor that only moves up, and the queue is the links in order of joining. The walk to an address leaves off
    there; the others go to the page's stop. It answers as the model does: bench/run checks that before it counts. */
@@ -202,27 +202,45 @@ static int sound(const uint32_t *heap, const uint16_t *labels, const fouterpin_r
   return 1;
 }
 
-/* A collection at work. */
+/* A collection at work. The queue holds the hinted pages, then those taken for copies, then those kept. */
 typedef struct {
   uint32_t *heap;
   uint16_t *labels, *queue;
-  uint32_t page, fresh_label, queued;
-  uint32_t copy_at, copy_end; /* where the next copy goes, and the end of its page */
+  uint32_t page, pages, fresh_label, queued;
+  uint32_t copy_at, copy_end; /* where the next copy goes, and the end of its page; where a page was kept they are one, and nothing fits */
   uint32_t cursor;            /* no page below is free */
-  uint32_t objects, words;
+  uint32_t objects, words, kept, fillers;
   unsigned shift;
 } collection;
 
-static uint32_t copy_object(collection *c, uint32_t object)
+static inline void join(collection *c, uint32_t which)
 {
-  uint32_t n = c->heap[object] >> 16, to, *from, *copy;
-  if (n > c->copy_end - c->copy_at) {
-    while (c->labels[c->cursor] != 0)
-      c->cursor++;
-    c->labels[c->cursor] = (uint16_t)c->fresh_label;
-    c->queue[c->queued++] = (uint16_t)c->cursor;
-    c->copy_at = c->cursor << c->shift;
-    c->copy_end = c->copy_at + c->page;
+  c->labels[which] = (uint16_t)c->fresh_label;
+  c->queue[c->queued++] = (uint16_t)which;
+}
+
+/* Takes the lowest free page for copies; 0 if there is none. */
+static int take_page(collection *c)
+{
+  while (c->cursor < c->pages && c->labels[c->cursor] != 0)
+    c->cursor++;
+  if (c->cursor == c->pages)
+    return 0;
+  join(c, c->cursor);
+  c->copy_at = c->cursor << c->shift;
+  c->copy_end = c->copy_at + c->page;
+  return 1;
+}
+
+/* Copies an object of n words or, where that fits nowhere, keeps its page. Once a page is kept no page is free, and nothing fits any more. */
+static uint32_t move_or_keep(collection *c, uint32_t object, uint32_t n)
+{
+  uint32_t to, *from, *copy;
+  if (n > c->copy_end - c->copy_at && !take_page(c)) {
+    join(c, object >> c->shift);
+    c->copy_end = c->copy_at;
+    c->kept++;
+    return object;
   }
   to = c->copy_at;
   from = c->heap + object;
@@ -235,13 +253,24 @@ static uint32_t copy_object(collection *c, uint32_t object)
   return to;
 }
 
+/* An object that was copied leads to its copy, also where its page was kept since: so its header is looked at before the label. */
 static inline uint32_t forward(collection *c, uint32_t reference)
 {
-  if (reference == 0 || c->labels[reference >> c->shift] == c->fresh_label)
+  uint32_t word;
+  if (reference == 0)
+    return 0;
+  word = c->heap[reference];
+  if ((word & 1) == 0)
+    return word / 2;
+  if (c->labels[reference >> c->shift] == c->fresh_label)
     return reference;
-  if ((c->heap[reference] & 1) == 0)
-    return c->heap[reference] / 2;
-  return copy_object(c, reference);
+  return move_or_keep(c, reference, word >> 16);
+}
+
+/* The length of what was copied from a place whose word is no header, by its copy; 0 where nothing was: there the page's objects end. */
+static inline uint32_t copied_words(const collection *c, uint32_t word)
+{
+  return word == 0 ? 0 : c->heap[word / 2] >> 16;
 }
 
 static void sweep(collection *c)
@@ -250,35 +279,40 @@ static void sweep(collection *c)
   for (next = 0; next < c->queued; next++) {
     at = (uint32_t)c->queue[next] << c->shift;
     end = at + c->page;
-    while (at < end && (n = object_words(c->heap[at], end - at)) != 0) {
-      uint32_t references = (c->heap[at] & 0xffff) >> 1;
+    for (; at < end; at += n) {
+      uint32_t word = c->heap[at], references = (word & 0xffff) >> 1;
+      n = object_words(word, end - at);
+      if (n == 0) {
+        n = copied_words(c, word);
+        if (n == 0)
+          break;
+        continue;
+      }
       for (i = 1; i <= references; i++)
         c->heap[at + i] = forward(c, c->heap[at + i]);
-      at += n;
     }
   }
 }
 
-/* The pages that so many words may take as copies. */
-static inline uint32_t pages_for(uint32_t words, uint32_t page)
+/* Kept pages are the last in the queue, and no others have places that something was copied from. */
+static void put_fillers(collection *c)
 {
-  return words == 0 ? 0 : 2 * (words / (page + 1)) + 1;
-}
-
-/* The words in objects on pages with this label. */
-static uint32_t words_labelled(const uint32_t *heap, const uint16_t *labels, const fouterpin_record *r, unsigned shift, uint32_t label)
-{
-  uint32_t which, at, end, n, words = 0;
-  for (which = 1; which < r->pages; which++) {
-    if (labels[which] != label)
-      continue;
-    at = which << shift;
-    end = at + r->page;
-    while (at < end && (n = object_words(heap[at], end - at)) != 0)
-      at += n;
-    words += at - (which << shift);
+  uint32_t next, at, end, n;
+  for (next = c->queued - c->kept; next < c->queued; next++) {
+    at = (uint32_t)c->queue[next] << c->shift;
+    end = at + c->page;
+    for (; at < end; at += n) {
+      n = object_words(c->heap[at], end - at);
+      if (n != 0)
+        continue;
+      n = copied_words(c, c->heap[at]);
+      if (n == 0)
+        break;
+      c->heap[at] = n << 16 | 1;
+      memset(c->heap + at + 1, 0, (n - 1) * sizeof *c->heap);
+      c->fillers++;
+    }
   }
-  return words;
 }
 
 static fouterpin_collected refused(uint32_t refusal, fouterpin_record r)
@@ -295,7 +329,7 @@ fouterpin_collected plain_collect(uint32_t *heap, size_t heap_len, uint16_t *lab
 {
   collection c;
   fouterpin_collected a;
-  uint32_t used = 0, hinted = 0, which, old = r.label;
+  uint32_t hinted, which, old = r.label;
   size_t i;
   if (!good_layout(heap_len, labels, labels_len, links_len, &r))
     return refused(FOUTERPIN_LAYOUT, r);
@@ -305,55 +339,29 @@ fouterpin_collected plain_collect(uint32_t *heap, size_t heap_len, uint16_t *lab
   for (i = 0; i < roots_len; i++)
     if (!is_reference(heap, labels, &r, c.shift, roots[i]))
       return refused(FOUTERPIN_BAD_REFERENCE, r);
-  /* A hint word names its own page, and the one before where it begins a page: elsewhere both are one. */
-  /* Hints give the new label before it is known whether there is room; where there is none they take it back. */
-  for (which = 1; which < r.pages; which++)
-    used += labels[which] != 0;
-  c.fresh_label = old == 1 ? 2 : 1;
-  for (i = 0; i < hints_len; i++) {
-    which = hints[i] >> c.shift;
-    if (which != 0 && which < r.pages && labels[which] == old) {
-      labels[which] = (uint16_t)c.fresh_label;
-      hinted++;
-    }
-    if ((hints[i] & (r.page - 1)) == 0 && which > 1 && which <= r.pages && labels[which - 1] == old) {
-      labels[which - 1] = (uint16_t)c.fresh_label;
-      hinted++;
-    }
-  }
-  /* Where there is room for the unhinted pages even if they are full, their words need not be counted. */
-  if (pages_for((used - hinted) << c.shift, r.page) > r.pages - 1 - used &&
-      pages_for(words_labelled(heap, labels, &r, c.shift, old), r.page) > r.pages - 1 - used) {
-    for (which = 1; which < r.pages; which++)
-      if (labels[which] != 0)
-        labels[which] = (uint16_t)old;
-    return refused(FOUTERPIN_NO_ROOM, r);
-  }
   c.heap = heap;
   c.labels = labels;
   c.queue = links;
   c.page = r.page;
+  c.pages = r.pages;
+  c.fresh_label = old == 1 ? 2 : 1;
   c.queued = 0;
   c.copy_at = c.copy_end = 0;
   c.cursor = 1;
-  c.objects = c.words = 0;
-  /* The queue wants the hinted pages in the hints' order: the old label once more, then the new. */
+  c.objects = c.words = c.kept = c.fillers = 0;
+  /* A hint word names its own page, and the one before where it begins a page: elsewhere both are one. */
   for (i = 0; i < hints_len; i++) {
     which = hints[i] >> c.shift;
-    if (which != 0 && which < r.pages && labels[which] == c.fresh_label) {
-      labels[which] = (uint16_t)old;
-      links[c.queued++] = (uint16_t)which;
-    }
-    if ((hints[i] & (r.page - 1)) == 0 && which > 1 && which <= r.pages && labels[which - 1] == c.fresh_label) {
-      labels[which - 1] = (uint16_t)old;
-      links[c.queued++] = (uint16_t)(which - 1);
-    }
+    if (which != 0 && which < r.pages && labels[which] == old)
+      join(&c, which);
+    if ((hints[i] & (r.page - 1)) == 0 && which > 1 && which <= r.pages && labels[which - 1] == old)
+      join(&c, which - 1);
   }
-  for (i = 0; i < c.queued; i++)
-    labels[links[i]] = (uint16_t)c.fresh_label;
+  hinted = c.queued;
   for (i = 0; i < roots_len; i++)
     roots[i] = forward(&c, roots[i]);
   sweep(&c);
+  put_fillers(&c);
   for (which = 1; which < r.pages; which++)
     if (labels[which] == old) {
       labels[which] = 0;
@@ -362,16 +370,18 @@ fouterpin_collected plain_collect(uint32_t *heap, size_t heap_len, uint16_t *lab
   r.label = c.fresh_label;
   r.opened = 0;
   r.fill = r.page;
-  if (c.queued > hinted) {
-    r.opened = links[c.queued - 1];
+  a.taken = c.queued - hinted - c.kept;
+  if (a.taken != 0) {
+    r.opened = links[hinted + a.taken - 1];
     r.fill = c.copy_at - (r.opened << c.shift);
   }
   memset(links, 0, links_len * sizeof *links);
   a.refusal = 0;
   a.hinted = hinted;
-  a.taken = c.queued - hinted;
   a.objects = c.objects;
   a.words = c.words;
+  a.kept = c.kept;
+  a.fillers = c.fillers;
   a.record = r;
   return a;
 }
@@ -392,5 +402,5 @@ uint32_t plain_page_named_before(uint32_t word, uint32_t page, uint32_t pages)
 
 uint32_t plain_pages_needed(uint32_t words, uint32_t page)
 {
-  return good_page(page) ? pages_for(words, page) : 4294967295u;
+  return !good_page(page) ? 4294967295u : words == 0 ? 0 : 2 * (words / (page + 1)) + 1;
 }

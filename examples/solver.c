@@ -42,7 +42,8 @@ __attribute__((noinline)) static void collect(const uint32_t *hints, size_t hint
     exit(1);
   }
   record = c.record;
-  printf("collected: %u pages stayed, %u objects were copied\n", (unsigned)c.hinted, (unsigned)c.objects);
+  printf("collected: %u pages stayed by hints, %u for want of room, %u objects were copied\n", (unsigned)c.hinted, (unsigned)c.kept,
+         (unsigned)c.objects);
 }
 
 __attribute__((noinline)) static void collect_with_stack(const uint32_t *high)

@@ -1,9 +1,9 @@
 /* fouterpin.h: the calls of Fouterpin, a mostly-copying collected heap (Bartlett 1988), for C.
 
-   The functions are those of the crate `solver`; each is proved equal to document 01's rules, with Q-1 to Q-5, for every input.
+   The functions are those of the crate `solver`; each is proved equal to document 01's rules, with Q-1 to Q-6, for every input.
    `rt staticlib solver` writes the archive target/staticlib/libsolver.a, for x86-64 Linux. Of C's library it wants memset, memcpy and memmove
-   at most, and no other; it allocates nothing, keeps no state between calls and never ends the program. Collect takes some 4.5 KB of stack,
-   the others a few hundred bytes. A C program links it as it is:
+   at most, and no other; it allocates nothing, keeps no state between calls and never ends the program. Each takes a few hundred bytes of
+   stack. A C program links it as it is:
 
        cc -Iinclude program.c target/staticlib/libsolver.a -o program
 
@@ -31,15 +31,19 @@
 
    LIFETIME OF AN OBJECT. Between collections no object moves. A collection keeps the objects on pages that a hint names (the page of
    the hint word and that of the word before it), where they are; it moves every other object that can be reached from those or from a
-   root cell; it forgets the rest and zeroes their pages. After it, an address is good only if it was read from a root cell, read from a
-   reference of an object that stayed, or named an object on a hinted page. fouterpin_load and fouterpin_store refuse what is no object's
-   address, and say whether it is inside an object or nothing is there; but a stale address may by chance be another object's, or inside
-   one.
+   root cell, as long as there is room for a copy; it forgets the rest and zeroes their pages. Once there is no room for a copy it moves nothing
+   more: the page of each object that is still reached is kept, with everything on it that was not moved, reached or not, and with what that
+   reaches in turn. Where an object was moved from a page that was kept after, a filler is left: an object of the same length, no references and
+   zeros, that nothing refers to. A filler is forgotten as any other object is, by the next collection, unless its page is then hinted or kept.
+   After a collection an address is good only if it was read from a root cell, read from a reference of an object that is still there, or named an
+   object on a hinted page. The answer does not say which pages were kept. fouterpin_load and fouterpin_store refuse what is no object's address,
+   and say whether it is inside an object or nothing is there; but a stale address may by chance be another object's, or inside one. Where a filler
+   was left, the stale address is the filler's: a load gives 0, a store is accepted, and the object that moved knows nothing of it.
 
    REFUSALS. Each answer begins with a refusal number, 0 where the call was accepted. A refused call has changed nothing: not one
-   word, label, link or root; its record is the one given, and its value (for collect, its four counts) is 0, except with 10: there it is
+   word, label, link or root; its record is the one given, and its value (for collect, its six counts) is 0, except with 10: there it is
    the address of the object that the address given is inside. Tests go in the order of the numbers, with 10 in the place of 4, except that
-   collect tests 1, 7, 6, 8. (9 is given by the session program alone.) */
+   collect tests 1, 7, 6. No call gives 8 (since Q-6; before, collect did) or 9 (the session program does). */
 #ifndef FOUTERPIN_H
 #define FOUTERPIN_H
 
@@ -59,7 +63,7 @@ enum {
   FOUTERPIN_INDEX = 5,         /* load, store: the index is not below d */
   FOUTERPIN_BAD_REFERENCE = 6, /* store: a value for a reference, collect: a root cell, that is neither 0 nor an object's address */
   FOUTERPIN_UNSOUND = 7,       /* collect: the heap is damaged (the whole of it is tested first) */
-  FOUTERPIN_NO_ROOM = 8,       /* collect: so many words may have to be copied that the free pages might not do */
+  FOUTERPIN_NO_ROOM = 8,       /* given by no call since Q-6: collect is never refused for room. The name is left for programs that ask for it */
   FOUTERPIN_INSIDE = 10        /* load, store, look_up: the address is inside an object, behind its header; the value is its address */
 };
 
@@ -87,6 +91,9 @@ typedef struct {
   uint32_t taken;   /* free pages that were taken for copies */
   uint32_t objects; /* objects copied */
   uint32_t words;   /* words copied, headers among them */
+  uint32_t kept;    /* pages that were kept because there was no room for a copy; no hinted page is among them. 0: everything that is not on a
+                       hinted page and was reached has moved */
+  uint32_t fillers; /* fillers left on kept pages, in the places of objects that had been copied by then */
   fouterpin_record record;
 } fouterpin_collected;
 
@@ -97,7 +104,8 @@ fouterpin_answer fouterpin_start(uint32_t *heap, size_t heap_len, uint16_t *labe
 
 /* Makes an object of d payload words, all 0, the first p of them references; its address is the value. It lives until a collection
    does not reach it. Writes the header and d words, and the label of a page that it takes; nothing else. Refused: 1, 2, 3. After 3,
-   collect and try again; if 3 comes again, the heap is too small for what is live. */
+   collect and try again; if 3 comes again, let go of some of what is held by roots and hints and collect once more, which is never refused for
+   room; or lend a larger heap. */
 fouterpin_answer fouterpin_allocate(uint32_t *heap, size_t heap_len, uint16_t *labels, size_t labels_len, uint16_t *links, size_t links_len,
                                     fouterpin_record r, uint32_t d, uint32_t p);
 
@@ -122,10 +130,11 @@ fouterpin_answer fouterpin_store(uint32_t *heap, size_t heap_len, uint16_t *labe
 /* Collects. Every page in use that holds the place of a hint word, or the place before it, stays, with all of its objects; everything
    else that is reached from there or from the root cells is copied together, and every reference and root cell is corrected; all other
    pages are zeroed and freed. A hint may be any word: an address inside an object, or just past its last word, keeps it as well as its
-   own, and a number that is no address does no harm but to keep a page, or two. Refused: 1, 7, 6, 8. It is 8 exactly where
-   fouterpin_pages_needed(W, page) exceeds the number of free pages, page 0 aside; W is the number of words in objects, reached or not, on
-   pages in use that no hint names. After 8, collect with more hints, since the words on a page that stays do not count, or lend a larger
-   heap. */
+   own, and a number that is no address does no harm but to keep a page, or two. Refused: 1, 7, 6. A sound heap whose root cells are good is always
+   collected, however full it is: where a copy fits neither the page of copies nor a free page, nothing more is copied, and the page of each
+   object that is still reached is kept, with all that was not copied from it; `kept` and `fillers` count what came of it (LIFETIME OF AN OBJECT). No
+   page is kept where fouterpin_pages_needed(W, page) is at most the number of free pages, page 0 aside; W is the number of words in objects, reached or not,
+   on pages in use that no hint names. */
 fouterpin_collected fouterpin_collect(uint32_t *heap, size_t heap_len, uint16_t *labels, size_t labels_len, uint16_t *links, size_t links_len,
                                       fouterpin_record r, uint32_t *roots, size_t roots_len, const uint32_t *hints, size_t hints_len);
 
@@ -138,7 +147,8 @@ uint32_t fouterpin_page_named_before(uint32_t word, uint32_t page, uint32_t page
 
 /* How many free pages a collection may need if so many words, headers among them, are in objects on pages in use that no hint names: 0
    for 0, else 2 * (words / (page + 1)) + 1, since two pages of copies in a row hold at least page + 1 words. With `page` 8 it is 1 for 1 to
-   8 words and 3 for 9 to 17. 4,294,967,295 if `page` is bad (0 is bad here). Refuses nothing. */
+   8 words and 3 for 9 to 17. With so many free pages it keeps none for want of room. 4,294,967,295 if `page` is bad (0 is bad here). Refuses
+   nothing. */
 uint32_t fouterpin_pages_needed(uint32_t words, uint32_t page);
 
 #ifdef __cplusplus

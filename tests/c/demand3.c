@@ -2,7 +2,12 @@
    for it, knowing nothing of how a collection works: it shares no code with the model, the library or the driver.
 
    The search begins with the objects on hinted pages, each paired with its own address, and with the root cells, before with after;
-   it follows the references of each pair side by side. Where two sides differ, no pairing exists, since each step was forced. */
+   it follows the references of each pair side by side. Where two sides differ, no pairing exists, since each step was forced.
+
+   Since Q-6 a page that was in use, that no hint names and that is in use after is a kept one. What stayed on it is not followed at first: so
+   what is found then is what was reached before any page was kept, and every copy is among it. Then a kept page joins once it holds an object that
+   stayed and is reached by now: its other objects stayed too, unless they are paired with a copy, and all that stayed is followed. In the end each
+   kept page has joined, so they can be put in an order in which each holds an object reached without that page and those behind it. */
 #include "demand3.h"
 
 #include <stdlib.h>
@@ -102,13 +107,22 @@ uint32_t demand3_object_at(const demand3_memory *m, uint32_t address)
 }
 
 /* The search: image[a] is the address after of the object at a before, 0 if not (yet) paired; preimage the other way. The list holds
-   the addresses before that are paired and not yet followed. */
+   the addresses before that are paired and not yet followed. hinted, kept and joined are by page; filler[a] is 1 if a filler stands at a after. */
 typedef struct {
   const demand3_memory *before, *after;
-  unsigned char *starts_before, *starts_after, *hinted;
+  unsigned char *starts_before, *starts_after, *hinted, *kept, *joined, *filler;
   uint32_t *image, *preimage, *list;
-  size_t listed, followed;
+  size_t listed, followed, listed_first; /* the last: how many were listed before any kept page had joined */
+  demand3_kept found;
 } search;
+
+static uint32_t size_at(const demand3_memory *m, size_t at) { return m->heap[at] >> 16; }
+
+/* The object at a, before, stayed on a kept page. */
+static int stayed_for_room(const search *s, size_t a)
+{
+  return s->kept[a / s->before->page] && s->image[a] == a;
+}
 
 /* The word a before and the word b after must be both nil or a pair. */
 static const char *must_pair(search *s, uint32_t a, uint32_t b, const char *not_nil, const char *no_object, const char *not_one_to_one)
@@ -149,7 +163,23 @@ static const char *follow(search *s, uint32_t a)
   return NULL;
 }
 
-static const char *search_pairs(search *s)
+/* Follows what was listed, but for what stayed on kept pages: that is followed when its page joins. */
+static const char *follow_listed(search *s)
+{
+  const char *why;
+  while (s->followed < s->listed) {
+    uint32_t a = s->list[s->followed++];
+    if (stayed_for_room(s, a))
+      continue;
+    why = follow(s, a);
+    if (why != NULL)
+      return why;
+  }
+  return NULL;
+}
+
+/* What hints and roots reach by way of objects on hinted pages and of copies. */
+static const char *search_first(search *s)
 {
   size_t at, i;
   const char *why;
@@ -166,14 +196,128 @@ static const char *search_pairs(search *s)
     if (why != NULL)
       return why;
   }
-  while (s->followed < s->listed) {
-    why = follow(s, s->list[s->followed++]);
-    if (why != NULL)
-      return why;
+  why = follow_listed(s);
+  s->listed_first = s->listed;
+  return why;
+}
+
+static int holds_a_reached_one(const search *s, size_t page)
+{
+  size_t at;
+  for (at = page * s->before->page; at < (page + 1) * s->before->page; at++)
+    if (s->starts_before[at] && stayed_for_room(s, at))
+      return 1;
+  return 0;
+}
+
+/* What stayed on a kept page, reached or not, and what that reaches. */
+static const char *join_kept(search *s, size_t page)
+{
+  size_t at, first = page * s->before->page, end = first + s->before->page;
+  const char *why;
+  s->joined[page] = 1;
+  for (at = first; at < end; at++)
+    if (s->starts_before[at] && s->image[at] == 0) {
+      why = must_pair(s, (uint32_t)at, (uint32_t)at, "nil", "an object on a kept page is gone", "kept objects break the pairing");
+      if (why != NULL)
+        return why;
+      s->found.unreached++;
+    }
+  for (at = first; at < end; at++)
+    if (s->starts_before[at] && stayed_for_room(s, at)) {
+      why = follow(s, (uint32_t)at);
+      if (why != NULL)
+        return why;
+    }
+  return follow_listed(s);
+}
+
+static const char *search_kept(search *s)
+{
+  size_t page, i;
+  const char *why;
+  int more = 1;
+  for (page = 1; page < s->before->pages; page++)
+    s->found.by_kept += s->kept[page] && !holds_a_reached_one(s, page);
+  while (more) {
+    more = 0;
+    for (page = 1; page < s->before->pages; page++)
+      if (s->kept[page] && !s->joined[page] && holds_a_reached_one(s, page)) {
+        more = 1;
+        why = join_kept(s, page);
+        if (why != NULL)
+          return why;
+      }
   }
+  for (page = 1; page < s->before->pages; page++)
+    if (s->kept[page] && !s->joined[page])
+      return "a page was kept that nothing reaches";
+  for (i = s->listed_first; i < s->listed; i++)
+    if (s->image[s->list[i]] != s->list[i])
+      return "an object was copied that only kept pages reach";
+  return NULL;
+}
+
+/* Where an object was copied from a page that was kept, a filler stands, and nothing leads to it. */
+static const char *search_fillers(search *s)
+{
+  const uint32_t *heap = s->after->heap;
+  size_t at, i;
+  for (at = 0; at < s->before->heap_len; at++) {
+    if (!s->starts_before[at] || !s->kept[at / s->before->page] || s->image[at] == at)
+      continue;
+    if (!s->starts_after[at] || size_at(s->after, at) != size_at(s->before, at))
+      return "a filler has another length";
+    if ((heap[at] & 0xffff) != 1)
+      return "a filler has references";
+    for (i = 1; i < size_at(s->after, at); i++)
+      if (heap[at + i] != 0)
+        return "a filler is not all zeros";
+    if (s->preimage[at] != 0)
+      return "a filler was reached";
+    s->filler[at] = 1;
+    s->found.fillers++;
+  }
+  return NULL;
+}
+
+static const char *search_pairs(search *s)
+{
+  size_t at;
+  const char *why = search_first(s);
+  if (why == NULL)
+    why = search_kept(s);
+  if (why == NULL)
+    why = search_fillers(s);
+  if (why != NULL)
+    return why;
   for (at = 0; at < s->after->heap_len; at++)
-    if (s->starts_after[at] && s->preimage[at] == 0)
+    if (s->starts_after[at] && s->preimage[at] == 0 && !s->filler[at])
       return "an object remains that was not reached";
+  return NULL;
+}
+
+/* Q-6: a page is kept only "when a copy fits neither the copy page nor a free page". The first one was kept for an object that was reached
+   before any, and the open page is as full as it was then. */
+static const char *kept_for_room(search *s)
+{
+  const demand3_memory *b = s->before, *a = s->after;
+  size_t page, at, i;
+  uint32_t room = a->page - a->fill;
+  int too_long = 0;
+  for (page = 1; page < b->pages; page++)
+    if (b->labels[page] == 0 && a->labels[page] == 0)
+      return "a page was kept while one was free";
+  for (i = 0; i < s->listed_first; i++)
+    too_long |= stayed_for_room(s, s->list[i]) && size_at(b, s->list[i]) > room;
+  if (!too_long)
+    return "a page was kept for a copy that would have fit";
+  for (at = 0; at < b->heap_len; at++)
+    if (s->starts_before[at] && stayed_for_room(s, at)) {
+      s->found.would_fit += size_at(b, at) <= room;
+      for (i = 1; i <= (b->heap[at] & 0xffff) >> 1; i++)
+        s->found.own_copy += b->heap[at + i] / b->page == at / b->page && s->image[b->heap[at + i]] != b->heap[at + i];
+    }
   return NULL;
 }
 
@@ -200,7 +344,7 @@ static uint32_t most_taken(const search *s)
 }
 
 /* Pages in use after, the counts, and what else document 01 says of the state that a collection leaves. */
-static const char *pages_and_counts(const search *s, const uint32_t counts[4])
+static const char *pages_and_counts(search *s, const uint32_t counts[6])
 {
   const demand3_memory *b = s->before, *a = s->after;
   uint32_t hinted = 0, taken = 0, objects = 0, words = 0;
@@ -208,24 +352,31 @@ static const char *pages_and_counts(const search *s, const uint32_t counts[4])
   for (page = 1; page < a->pages; page++) {
     int copies = 0;
     hinted += s->hinted[page];
+    s->found.pages += s->kept[page];
+    s->found.opened += s->kept[page] && page == b->opened;
     for (at = page * a->page; at < (page + 1) * a->page; at++)
-      if (s->starts_after[at] && !s->hinted[s->preimage[at] / b->page]) {
+      if (s->starts_after[at] && !s->filler[at] && s->preimage[at] != at) {
         copies = 1;
         objects++;
         words += a->heap[at] >> 16;
       }
-    if (a->labels[page] != 0 && !s->hinted[page] && !copies)
-      return "a page in use was not hinted and holds no copy";
+    if (a->labels[page] != 0 && !s->hinted[page] && !s->kept[page] && !copies)
+      return "a page in use was neither hinted nor kept and holds no copy";
     if (a->labels[page] == 0 && s->hinted[page])
       return "a hinted page was freed";
-    if (a->labels[page] != 0 && s->hinted[page] && copies)
+    if (s->hinted[page] && copies)
       return "a copy lies on a hinted page";
-    if (a->labels[page] != 0 && !s->hinted[page] && b->labels[page] != 0)
-      return "a page that was in use was taken for copies";
-    taken += a->labels[page] != 0 && !s->hinted[page];
+    if (s->kept[page] && copies)
+      return "a copy lies on a kept page";
+    taken += a->labels[page] != 0 && !s->hinted[page] && !s->kept[page];
   }
   if (taken > most_taken(s))
     return "more pages were taken than the bound";
+  if (s->found.pages != 0) {
+    const char *why = kept_for_room(s);
+    if (why != NULL)
+      return why;
+  }
   if (counts[0] != hinted)
     return "the count of pages hinted is wrong";
   if (counts[1] != taken)
@@ -234,9 +385,13 @@ static const char *pages_and_counts(const search *s, const uint32_t counts[4])
     return "the count of objects copied is wrong";
   if (counts[3] != words)
     return "the count of words copied is wrong";
+  if (counts[4] != s->found.pages)
+    return "the count of pages kept is wrong";
+  if (counts[5] != s->found.fillers)
+    return "the count of fillers is wrong";
   if (a->label != 3 - b->label)
     return "the label has not changed";
-  if (taken == 0 ? a->opened != 0 : a->opened == 0 || s->hinted[a->opened])
+  if (taken == 0 ? a->opened != 0 : a->opened == 0 || s->hinted[a->opened] || s->kept[a->opened])
     return "the open page is none that was taken";
   for (page = 0; page < a->pages; page++)
     if (a->links[page] != 0)
@@ -272,6 +427,27 @@ static unsigned char *hinted_pages(const demand3_memory *m, const uint32_t *hint
   return hinted;
 }
 
+/* kept[n] is 1 if page n was in use, no hint names it, and it is in use after. The caller frees it. */
+static unsigned char *kept_pages(const demand3_memory *before, const demand3_memory *after, const unsigned char *hinted)
+{
+  unsigned char *kept = fresh(before->pages, 1);
+  size_t page;
+  for (page = 1; page < before->pages; page++)
+    kept[page] = before->labels[page] != 0 && after->labels[page] != 0 && !hinted[page];
+  return kept;
+}
+
+int demand3_good_roots(const demand3_memory *m)
+{
+  unsigned char *starts = starts_of(m);
+  int good = starts != NULL;
+  size_t i;
+  for (i = 0; good && i < m->roots_len; i++)
+    good = m->roots[i] == 0 || (m->roots[i] < m->heap_len && starts[m->roots[i]]);
+  free(starts);
+  return good;
+}
+
 demand3_room demand3_room_for(const demand3_memory *before, const uint32_t *hints, size_t hints_len)
 {
   unsigned char *starts = starts_of(before), *hinted = hinted_pages(before, hints, hints_len);
@@ -282,7 +458,7 @@ demand3_room demand3_room_for(const demand3_memory *before, const uint32_t *hint
 }
 
 const char *demand3_collection(const demand3_memory *before, const demand3_memory *after, const uint32_t *hints, size_t hints_len,
-                               const uint32_t counts[4])
+                               const uint32_t counts[6], demand3_kept *found)
 {
   search s;
   const char *why = demand3_unsound(before);
@@ -298,17 +474,26 @@ const char *demand3_collection(const demand3_memory *before, const demand3_memor
   s.starts_before = starts_of(before);
   s.starts_after = starts_of(after);
   s.hinted = hinted_pages(before, hints, hints_len);
+  s.kept = kept_pages(before, after, s.hinted);
+  s.joined = fresh(before->pages, 1);
+  s.filler = fresh(before->heap_len, 1);
   s.image = fresh(before->heap_len, sizeof *s.image);
   s.preimage = fresh(before->heap_len, sizeof *s.preimage);
   s.list = fresh(before->heap_len, sizeof *s.list);
   s.listed = 0;
   s.followed = 0;
+  s.listed_first = 0;
+  memset(&s.found, 0, sizeof s.found);
   why = search_pairs(&s);
   if (why == NULL)
     why = pages_and_counts(&s, counts);
   free(s.starts_before);
   free(s.starts_after);
+  *found = s.found;
   free(s.hinted);
+  free(s.kept);
+  free(s.joined);
+  free(s.filler);
   free(s.image);
   free(s.preimage);
   free(s.list);

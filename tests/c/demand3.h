@@ -32,9 +32,23 @@ typedef struct {
 
 demand3_room demand3_room_for(const demand3_memory *before, const uint32_t *hints, size_t hints_len);
 
-/* NULL if an accepted collection that made `after` of `before` is as demand 3 has it, else the clause that fails. The four counts are
-   hinted, taken, objects, words, as the collection answered them. */
+/* Every root cell is 0 or an object's address. */
+int demand3_good_roots(const demand3_memory *m);
+
+/* What was found of the pages that a collection kept for want of room, to tell how hard a case it was. All 0 where it kept none. */
+typedef struct {
+  uint32_t pages;     /* that were kept */
+  uint32_t opened;    /* of these, the one that was open: 1, or 0 if it was none */
+  uint32_t fillers;   /* places on them that objects were copied from */
+  uint32_t by_kept;   /* of the pages, those that only what stayed on other kept pages reaches */
+  uint32_t unreached; /* objects that stayed with their page, and that nothing had reached when it joined the search */
+  uint32_t would_fit; /* objects that stayed and are no longer than what is left of the open page: copying was over */
+  uint32_t own_copy;  /* references, of objects that stayed, to what was copied out of their own page */
+} demand3_kept;
+
+/* NULL if an accepted collection that made `after` of `before` is as demand 3 has it, else the clause that fails. The six counts are
+   hinted, taken, objects, words, kept, fillers, as the collection answered them. What is found says nothing where a clause fails. */
 const char *demand3_collection(const demand3_memory *before, const demand3_memory *after, const uint32_t *hints, size_t hints_len,
-                               const uint32_t counts[4]);
+                               const uint32_t counts[6], demand3_kept *found);
 
 #endif

@@ -3,13 +3,15 @@
    Built over the archive, by the calls of include/fouterpin.h; over the model; and over bench/plain.c (over.h).
    Every slice that a call is lent lies on a mapping of its own between two pages that may not be touched, in turn right before the one
    behind and right behind the one before; the bytes between slice and page are canaries, looked at after each call. Hints are lent on
-   memory that can't be written, and for load and look-up so is everything. After a refusal all memory must be as it was. What load, store
-   and look-up say of an address must be what the objects in memory say, as demand3.c finds them.
+   memory that can't be written, and for load and look-up so is everything. After a refusal all memory must be as it was, and its number must be
+   one that a call can give: 8 is none since Q-6. What load, store and look-up say of an address must be what the objects in memory say, as
+   demand3.c finds them.
 
    driver [-3] [-t] < script
      -3  demand 3: after each accepted collection its pairing is searched for (demand3.c), and a heap that was sound must be sound
-         after any call, and after an accepted start; a collection is refused for room exactly where the call for pages needed says so
-     -t  prints on standard error at the end how often each call gave each refusal, and with -3 how near to its edge refusal 8 was tried
+         after any call, and after an accepted start; every collection of a sound heap with good roots completes, and keeps no page where
+         as many are free as the call for pages needed says
+     -t  prints on standard error at the end how often each call gave each refusal, and with -3 how many collections kept pages, and in which ways
    Exit status 0; 1 where a check failed, after a line on standard error; 2 for a script that is none; 3 where a call touched memory that
    it was not lent, or wrote what it may only read. */
 #define _POSIX_C_SOURCE 200809L
@@ -25,16 +27,11 @@
 #include <sys/mman.h>
 #include <unistd.h>
 
-/* How often each call gave each refusal: those of include/fouterpin.h, and any other. */
+/* How often each call gave each refusal: 0 to 7, and 10. */
 enum { starts, allocs, loads, stores, looks, collects, pages_asked, befores_asked, needs_asked, calls };
 static const char *const call_names[calls] = {"start", "alloc", "load", "store", "look", "collect", "page", "before", "need"};
-enum { layout = 1, nothing_there = 4, no_room = 8, inside = 10, columns = 11 };
+enum { layout = 1, nothing_there = 4, unsound = 7, inside = 10, columns = 9 };
 static uint64_t given[calls][columns];
-
-static void counted(int call, uint32_t refusal)
-{
-  given[call][refusal <= 8 ? refusal : refusal == inside ? columns - 2 : columns - 1]++;
-}
 
 static unsigned long line; /* of the script, from 1 */
 
@@ -43,6 +40,13 @@ static void fail(const char *what)
   fflush(stdout);
   fprintf(stderr, "driver: line %lu: %s\n", line, what);
   exit(1);
+}
+
+static void counted(int call, uint32_t refusal)
+{
+  if (refusal > unsound && refusal != inside)
+    fail("a refusal that no call gives");
+  given[call][refusal == inside ? columns - 1 : refusal]++;
 }
 
 /* A call touched memory that it was not lent. Only what a signal handler may call is called. */
@@ -294,30 +298,65 @@ static void run_plain(int call, const uint32_t *n)
   print_answer(rec);
 }
 
-/* Collections that were accepted or refused 8, by the pages that they may need and those that are free: by how many the first exceed the
-   second; whether one word more would be refused, or one less accepted; and how many were accepted by words that would not be by pages. */
-enum { fewer, as_many, one_more, more, no_word_more, a_word_too_many, by_words_alone, edges };
-static const char *const edge_names[edges] = {"fewer-than-free", "as-many-as-free", "one-more-than-free", "more-than-free",
-                                              "no-word-more",    "a-word-too-many", "by-words-alone"};
-static uint64_t near_edge[edges];
+/* Accepted collections of sound heaps: by the pages that they may need and those that are free, how the first compare with the second; and what
+   is found of the pages that they kept (demand3_kept). */
+enum {
+  fewer, as_many, more, kept_none, kept_any, kept_several, copied_none,
+  kept_opened, left_fillers, only_by_kept, with_unreached, with_fitting, with_own_copy, ways
+};
+static const char *const way_names[ways] = {
+  "fewer-than-free", "as-many-as-free", "more-than-free", "more-and-kept-none", "kept", "kept-several", "kept-and-copied-none",
+  "kept-the-open-page", "left-fillers", "kept-by-kept-pages", "kept-the-unreached", "kept-what-would-fit", "kept-beside-its-copy",
+};
+static uint64_t seen[ways];
 
-/* Q-3: "8 is given exactly when the new figure exceeds N - k", by the call for that figure and by the words that are found in memory; and
-   the figure "never exceeds the old" one. */
-static void check_room(uint32_t refusal)
+/* Q-3's bound, since Q-6: where a collection may need no more pages than are free, it keeps none. The figure is the call's, the words are those
+   found in memory; and the figure "never exceeds the old" one. */
+static void check_room(collected c, demand3_kept kept)
 {
   demand3_memory before = memory_before(rec);
   demand3_room room = demand3_room_for(&before, words(hints), count(hints));
   uint32_t needed = CALL(pages_needed)(room.words, rec.page), by_pages = room.unhinted == 0 ? 0 : 2 * room.unhinted - 1;
   if (needed > by_pages)
     fail("more pages are said to be needed than by the count of pages");
-  if (needed > room.free && refusal != no_room)
-    fail("a collection was accepted that may need more pages than are free");
-  if (needed <= room.free && refusal == no_room)
-    fail("a collection was refused for room that needs no more pages than are free");
-  near_edge[needed < room.free ? fewer : needed == room.free ? as_many : needed == room.free + 1 ? one_more : more]++;
-  near_edge[no_word_more] += refusal == 0 && CALL(pages_needed)(room.words + 1, rec.page) > room.free;
-  near_edge[a_word_too_many] += refusal != 0 && CALL(pages_needed)(room.words - 1, rec.page) <= room.free;
-  near_edge[by_words_alone] += refusal == 0 && by_pages > room.free;
+  if (needed <= room.free && c.kept != 0)
+    fail("a page was kept where no more pages may be needed than are free");
+  seen[needed < room.free ? fewer : needed == room.free ? as_many : more]++;
+  seen[kept_none] += needed > room.free && kept.pages == 0;
+  seen[kept_any] += kept.pages > 0;
+  seen[kept_several] += kept.pages > 1;
+  seen[copied_none] += kept.pages > 0 && c.objects == 0;
+  seen[kept_opened] += kept.opened > 0;
+  seen[left_fillers] += kept.fillers > 0;
+  seen[only_by_kept] += kept.by_kept > 0;
+  seen[with_unreached] += kept.unreached > 0;
+  seen[with_fitting] += kept.would_fit > 0;
+  seen[with_own_copy] += kept.own_copy > 0;
+}
+
+/* Demand 3 on a collection that was just made, before its record is taken over. */
+static void check_collection(collected c)
+{
+  demand3_memory b = memory_before(rec), a = memory_now(c.record);
+  demand3_kept kept;
+  uint32_t counts[6];
+  const char *why;
+  if (c.refusal != 0) {
+    if (sound_before && demand3_good_roots(&b))
+      fail("a collection of a sound heap with good roots was refused");
+    return;
+  }
+  counts[0] = c.hinted;
+  counts[1] = c.taken;
+  counts[2] = c.objects;
+  counts[3] = c.words;
+  counts[4] = c.kept;
+  counts[5] = c.fillers;
+  why = demand3_collection(&b, &a, words(hints), count(hints), counts, &kept);
+  if (why != NULL)
+    fail(why);
+  check_room(c, kept);
+  checked_collections++;
 }
 
 static void run_collect(void)
@@ -326,25 +365,13 @@ static void run_collect(void)
   before_call();
   c = CALL(collect)(words(heap), count(heap), halves(labels), count(labels), halves(links), count(links), rec, words(roots), count(roots),
                     words(hints), count(hints));
-  after_call(collects, c.refusal, c.hinted == 0 && c.taken == 0 && c.objects == 0 && c.words == 0, c.record);
-  if (demand_3 && sound_before && (c.refusal == 0 || c.refusal == no_room))
-    check_room(c.refusal);
-  if (demand_3 && c.refusal == 0) {
-    demand3_memory b = memory_before(rec), a = memory_now(c.record);
-    uint32_t counts[4];
-    const char *why;
-    counts[0] = c.hinted;
-    counts[1] = c.taken;
-    counts[2] = c.objects;
-    counts[3] = c.words;
-    why = demand3_collection(&b, &a, words(hints), count(hints), counts);
-    if (why != NULL)
-      fail(why);
-    checked_collections++;
-  }
+  after_call(collects, c.refusal, c.hinted == 0 && c.taken == 0 && c.objects == 0 && c.words == 0 && c.kept == 0 && c.fillers == 0, c.record);
+  if (demand_3)
+    check_collection(c);
   counted(collects, c.refusal);
   rec = c.record;
-  printf("collect %" PRIu32 " %" PRIu32 " %" PRIu32 " %" PRIu32 " %" PRIu32, c.refusal, c.hinted, c.taken, c.objects, c.words);
+  printf("collect %" PRIu32 " %" PRIu32 " %" PRIu32 " %" PRIu32 " %" PRIu32 " %" PRIu32 " %" PRIu32, c.refusal, c.hinted, c.taken, c.objects,
+         c.words, c.kept, c.fillers);
   print_answer(rec);
 }
 
@@ -486,8 +513,8 @@ static int run_line(char *text)
 
 static void print_table(void)
 {
-  int call, column, edge;
-  fprintf(stderr, "table refusal 0 1 2 3 4 5 6 7 8 10 other\n");
+  int call, column, way;
+  fprintf(stderr, "table refusal 0 1 2 3 4 5 6 7 10\n");
   for (call = 0; call < calls; call++) {
     fprintf(stderr, "table %s", call_names[call]);
     for (column = 0; column < columns; column++)
@@ -495,8 +522,8 @@ static void print_table(void)
     fprintf(stderr, "\n");
   }
   fprintf(stderr, "table collections-searched %" PRIu64 "\ntable sound-after %" PRIu64 "\n", checked_collections, checked_calls);
-  for (edge = 0; edge < edges; edge++)
-    fprintf(stderr, "table %s %" PRIu64 "\n", edge_names[edge], near_edge[edge]);
+  for (way = 0; way < ways; way++)
+    fprintf(stderr, "table %s %" PRIu64 "\n", way_names[way], seen[way]);
 }
 
 int main(int argc, char **argv)

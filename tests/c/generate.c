@@ -2,9 +2,9 @@
 
    generate SEED CALLS > script      at least CALLS calls; the same seed gives the same script on every machine
 
-   Episodes of six kinds, in turn by chance: honest runs from a fresh start; sound heaps built directly; sound heaps of small remnants, with
-   about as many words as there is room for; sound heaps with aimed damage to a header, a tail, a label, the record, a reference or a
-   length; memory that is junk under a record that is not; and the calls on numbers. The generator keeps the state itself, by the model, so
+   Episodes of seven kinds, in turn by chance: honest runs from a fresh start; sound heaps built directly; sound heaps of small remnants, with
+   about as many words as there is room for; full heaps, whose collections keep pages; sound heaps with aimed damage to a header, a tail, a label,
+   the record, a reference or a length; memory that is junk under a record that is not; and the calls on numbers. The generator keeps the state itself, by the model, so
    that it knows addresses to aim at; what the answers are is none of its business. Sizes are weighted to small, where every edge is near. */
 #include "model.h"
 
@@ -252,17 +252,14 @@ static void do_store(uint32_t address, uint32_t index, uint32_t value)
   calls_made++;
 }
 
-static uint32_t do_collect(void)
+static void do_collect(void)
 {
-  model_collected c;
   print_list("roots", roots, roots_len);
   print_list("hints", hints, hints_len);
   printf("collect\n");
-  c = model_collect(heap, heap_len, labels, labels_len, links, links_len, rec, roots, roots_len, hints, hints_len);
-  rec = c.record;
+  rec = model_collect(heap, heap_len, labels, labels_len, links, links_len, rec, roots, roots_len, hints, hints_len).record;
   calls_made++;
   list_objects();
-  return c.refusal;
 }
 
 /* Arguments. */
@@ -358,11 +355,11 @@ static void choose_hints(void)
     hints[i] = chance(60) ? inside_object(page) : near_word();
 }
 
-static uint32_t some_collect(uint32_t percent_good)
+static void some_collect(uint32_t percent_good)
 {
   choose_roots(percent_good);
   choose_hints();
-  return do_collect();
+  do_collect();
 }
 
 /* P from 8 to 1,024 and T from 3 on, small for the most part. */
@@ -463,11 +460,13 @@ static void honest(void)
       some_load(88);
     else if (r < 88)
       some_look();
-    else if (some_collect(96) == 8 && chance(50)) {
-      /* room by hinting a part of the pages */
-      for (hints_len = 0; hints_len < labels_len / 2; hints_len++)
-        hints[hints_len] = page * below(pages);
-      do_collect();
+    else {
+      some_collect(96);
+      if (chance(30)) { /* again, with everything held: pages are used up by and by */
+        hold_everything();
+        choose_hints();
+        do_collect();
+      }
     }
     if (chance(1) && chance(10))
       do_start(page, pages);
@@ -475,8 +474,9 @@ static void honest(void)
 }
 
 /* A sound heap, made directly: each page in use full of objects to a random stop; where it is tight, full of objects of about half a
-   page, which copies may pack much worse. */
+   page, which copies may pack much worse. So many percent of the references lead to an object of their own page. */
 static int tight;
+static uint32_t homely;
 
 /* Objects of so many words together, at least one. */
 static void fill_page(uint32_t which, uint32_t words)
@@ -508,6 +508,18 @@ static void open_a_page(void)
     rec.opened = 0;
 }
 
+/* An object of the same page as the o-th one, that one among them. */
+static uint32_t an_object_beside(size_t o)
+{
+  uint32_t page = objects[o] / rec.page;
+  size_t first = o, end = o + 1;
+  while (first > 0 && objects[first - 1] / rec.page == page)
+    first--;
+  while (end < objects_len && objects[end] / rec.page == page)
+    end++;
+  return objects[first + below((uint32_t)(end - first))];
+}
+
 /* Payload for objects whose headers stand already; of the references so many percent are nil. */
 static void fill_objects(uint32_t nil)
 {
@@ -517,7 +529,11 @@ static void fill_objects(uint32_t nil)
   for (o = 0; o < objects_len; o++) {
     uint32_t at = objects[o], header = heap[at];
     for (i = 1; i < header >> 16; i++)
-      heap[at + i] = i > (header & 0xffff) / 2 ? a_number() : chance(nil) ? 0 : chance(10) ? at : an_object();
+      heap[at + i] = i > (header & 0xffff) / 2 ? a_number()
+                     : chance(nil)             ? 0
+                     : chance(10)              ? at
+                     : chance(homely)          ? an_object_beside(o)
+                                               : an_object();
   }
 }
 
@@ -528,6 +544,7 @@ static void built(void)
   size_memory(page, pages);
   rec.label = 1 + below(2);
   tight = chance(15) && page >= 8;
+  homely = 0;
   used = tight ? pages / (chance(70) ? 2 : 3) : mode < 6 ? (pages + 1) / 3 : mode < 9 ? below(pages) : pages - 1;
   for (i = 0; i < used; i++) {
     k = tight ? 1 + i : 1 + below(pages - 1);
@@ -608,6 +625,21 @@ static void share_words(uint32_t *words, uint32_t pages, uint32_t sum)
   }
 }
 
+/* Every page is in use but so many, and one of those in use may be open. */
+static void use_all_but(uint32_t free_pages)
+{
+  uint32_t i, which;
+  rec.label = 1 + below(2);
+  for (i = 1; i < true_pages; i++)
+    labels[i] = (uint16_t)rec.label;
+  for (i = 0; i < free_pages;) {
+    which = 1 + below(true_pages - 1);
+    i += labels[which] != 0;
+    labels[which] = 0;
+  }
+  open_a_page();
+}
+
 /* Many pages in use and few free ones: the words on pages that no hint names are mostly just as many as Q-3 has room for, or one more.
    With f free pages, too many are (P + 1) * ceil(f / 2), and 1 where f is 0. */
 static void remnants_run(void)
@@ -616,18 +648,11 @@ static void remnants_run(void)
   uint32_t page = chance(50) ? 8 : chance(60) ? 16 : chance(80) ? 64 : 1024, pages = 3 + below(chance(70) ? 12 : 45);
   uint32_t free_pages, too_many, i, n = 0, steps = below(4);
   size_memory(page, pages);
-  rec.label = 1 + below(2);
   free_pages = chance(8) ? 0 : 1 + below(chance(80) && pages > 6 ? 5 : pages - 1);
-  for (i = 1; i < pages; i++)
-    labels[i] = (uint16_t)rec.label;
-  for (i = 0; i < free_pages;) {
-    uint32_t which = 1 + below(pages - 1);
-    i += labels[which] != 0;
-    labels[which] = 0;
-  }
-  open_a_page();
+  use_all_but(free_pages);
   choose_held();
   tight = chance(30);
+  homely = 0;
   for (i = 1; i < pages; i++)
     if (labels[i] != 0 && is_hinted(i))
       build_page(i);
@@ -642,12 +667,45 @@ static void remnants_run(void)
   choose_roots(95);
   if (chance(50))
     hold_everything();
-  if (do_collect() == 8 && n > 0) { /* one page more that stays */
+  do_collect();
+  if (n > 0 && chance(30)) { /* again, with one page more that stays if it is still in use */
     hints[hints_len++] = a_hint_for(unhinted[below(n)]);
     do_collect();
   }
   for (i = 0; i < steps; i++)
     some_call(90);
+}
+
+/* Few pages are free or none, so that a collection soon has nowhere to copy to and keeps pages, a part of whose objects was copied by then. Many
+   references stay on their page. Then it is collected again with what the roots have become, some of them cleared, and called between. */
+static void full_run(void)
+{
+  uint32_t page = chance(60) ? 8 : chance(60) ? 16 : chance(80) ? 64 : 256, pages = 3 + below(chance(80) ? 8 : 30), i, steps = 1 + below(5);
+  size_memory(page, pages);
+  use_all_but(chance(25) ? 0 : 1 + below(pages < 5 ? 1 : pages < 10 ? 2 : 4));
+  choose_held();
+  tight = chance(20);
+  homely = chance(50) ? 60 : 10;
+  for (i = 1; i < pages; i++)
+    if (labels[i] != 0)
+      build_page(i);
+  fill_objects(chance(50) ? 30 : 80);
+  if (chance(50))
+    junk_links();
+  print_state();
+  choose_roots(97);
+  if (chance(25))
+    hold_everything();
+  do_collect();
+  for (i = 0; i < steps; i++) {
+    if (chance(60))
+      some_call(90);
+    if (roots_len > 0)
+      roots[below((uint32_t)roots_len)] = 0;
+    if (chance(30))
+      choose_held();
+    do_collect();
+  }
 }
 
 /* Aimed damage. */
@@ -899,10 +957,12 @@ int main(int argc, char **argv)
     uint32_t r = below(100);
     if (r < 6)
       honest();
-    else if (r < 36)
+    else if (r < 32)
       built_run();
-    else if (r < 52)
+    else if (r < 44)
       remnants_run();
+    else if (r < 57)
+      full_run();
     else if (r < 92)
       damaged_run();
     else if (r < 97)

@@ -1,13 +1,11 @@
-/* model.c: document 01's calls as a model in C, with requests Q-1 to Q-5 of document 02, written from the two alone, in their words and
+/* model.c: document 01's calls as a model in C, with requests Q-1 to Q-6 of document 02, written from the two alone, in their words and
    order, plain rather than fast. Nothing here was taken from the Rattle code; the tests compare the two. It assumes nothing of what it is
    lent beyond true lengths. Q-4 changes no answer, so the model does without it: its walks go on to the stop, as document 01's do.
    tests/c/mutants plants errors in this file by exact lines: a line changed here is changed there. */
 #include "model.h"
 
-#include <stdio.h>
-#include <stdlib.h>
-
-enum { layout = 1, shape, collect_first, nothing_there, index_too_high, bad_reference, unsound, no_room, inside_object = 10 };
+/* There is no 8: Q-6, "Never refuse a collection for room." */
+enum { layout = 1, shape, collect_first, nothing_there, index_too_high, bad_reference, unsound, inside_object = 10 };
 
 /* What a collection works on. The document keeps its queue in the links; the model has an array of its own and only clears them. */
 typedef struct {
@@ -20,7 +18,7 @@ typedef struct {
   uint32_t queued;
   uint32_t copy_page; /* 0 for none yet */
   uint32_t copy_fill;
-  uint32_t hinted, taken, objects, words;
+  uint32_t hinted, taken, objects, words, kept, fillers;
 } world;
 
 /* P is a power of two from 8 to 1,024. */
@@ -323,63 +321,30 @@ static uint32_t page_of_word(const world *w, uint32_t word)
   return 0;
 }
 
-/* Q-1: "A hint word w names its own page first and then, if w is at least 1, the page of w - 1." */
-static int names(const world *w, uint32_t hint, uint32_t page)
+/* "During a collection an even word, twice the new address, stands there instead" of an object's header. 0 is even too: it stands from the stop
+   of a page's walk on, and no address is 0. */
+static int is_copied(const world *w, uint32_t place)
 {
-  if (page_of_word(w, hint) == page)
-    return 1;
-  return hint >= 1 && page_of_word(w, hint - 1) == page;
+  return w->heap[place] != 0 && w->heap[place] % 2 == 0;
 }
 
-static int is_hinted(const world *w, const uint32_t *hints, size_t hints_len, uint32_t page)
+static uint32_t copy_of(const world *w, uint32_t place)
 {
-  size_t i;
-  for (i = 0; i < hints_len; i++)
-    if (names(w, hints[i], page))
-      return 1;
-  return 0;
+  return w->heap[place] / 2;
 }
 
-/* An object's words are its n, the header among them. */
-static uint32_t words_in_objects(const world *w, uint32_t page)
+static int fits_copy_page(const world *w, uint32_t n)
 {
-  uint32_t at = page * w->r.page, words = 0;
-  while (at < (page + 1) * w->r.page && is_header(w->heap, w->r, at)) {
-    words = words + size_of(w->heap[at]);
-    at = at + size_of(w->heap[at]);
-  }
-  return words;
+  return w->copy_page != 0 && n <= w->r.page - w->copy_fill;
 }
 
-/* Q-3: "Let W be the words in objects on unhinted pages in use." */
-static uint32_t words_unhinted(const world *w, const uint32_t *hints, size_t hints_len)
-{
-  uint32_t page, words = 0;
-  for (page = 1; page < w->r.pages; page++)
-    if (w->labels[page] != 0 && !is_hinted(w, hints, hints_len, page))
-      words = words + words_in_objects(w, page);
-  return words;
-}
-
-/* Q-3: "a collection takes at most 2*floor(W / (P + 1)) + 1 pages if W is at least 1, else none". */
-static uint32_t most_pages_taken(uint32_t words, uint32_t page)
-{
-  if (words == 0)
-    return 0;
-  return 2 * (words / (page + 1)) + 1;
-}
-
-/* "Copied whole: at the copy page's fill if it fits, otherwise at the start of the lowest-numbered free page." */
+/* "Copied whole: at the copy page's fill if it fits, otherwise at the start of the lowest-numbered free page." There is one of the two. */
 static uint32_t copy_object(world *w, uint32_t object)
 {
   uint32_t n = size_of(w->heap[object]);
   uint32_t to, i;
-  if (w->copy_page == 0 || n > w->r.page - w->copy_fill) {
+  if (!fits_copy_page(w, n)) {
     uint32_t page = lowest_free(w->labels, w->r);
-    if (page == 0) {
-      fprintf(stderr, "model: a collection found no free page\n");
-      exit(1);
-    }
     join(w, page);
     w->copy_page = page;
     w->copy_fill = 0;
@@ -395,16 +360,36 @@ static uint32_t copy_object(world *w, uint32_t object)
   return to;
 }
 
-/* "Forwarding 0 gives 0. An object on a page with the new label gives itself. An object already copied gives its copy." */
+/* Q-6: "the object's own page is kept: it gets the new label, joins the end of the queue, and its uncopied objects all stay and are swept". */
+static void keep_page(world *w, uint32_t page)
+{
+  join(w, page);
+  w->kept = w->kept + 1;
+}
+
+/* Q-6: "When a copy fits neither the copy page nor a free page, the object's own page is kept", and "From then on that collection copies nothing
+   more". */
+static int may_copy(const world *w, uint32_t n)
+{
+  if (w->kept != 0)
+    return 0;
+  return fits_copy_page(w, n) || lowest_free(w->labels, w->r) != 0;
+}
+
+/* "Forwarding 0 gives 0. An object on a page with the new label gives itself. An object already copied gives its copy." Which of the last two is
+   asked first makes a difference since Q-6: "An object already copied out of a kept page is still reached at its copy." */
 static uint32_t forward(world *w, uint32_t reference)
 {
   if (reference == 0)
     return 0;
+  if (is_copied(w, reference))
+    return copy_of(w, reference);
   if (w->labels[reference / w->r.page] == w->new_label)
     return reference;
-  if (w->heap[reference] % 2 == 0)
-    return w->heap[reference] / 2;
-  return copy_object(w, reference);
+  if (may_copy(w, size_of(w->heap[reference])))
+    return copy_object(w, reference);
+  keep_page(w, reference / w->r.page);
+  return reference;
 }
 
 /* A page that a hint word names, or 0. One that has joined is not current any more, so it joins once. */
@@ -435,17 +420,61 @@ static void forward_roots(world *w, uint32_t *roots, size_t roots_len)
     roots[i] = forward(w, roots[i]);
 }
 
-/* Step 3. The queue and the page at its end grow while they are swept. */
+/* One object's references, in order. */
+static void sweep_object(world *w, uint32_t object)
+{
+  uint32_t i;
+  for (i = 0; i < refs_of(w->heap[object]); i++)
+    w->heap[object + 1 + i] = forward(w, w->heap[object + 1 + i]);
+}
+
+/* Where the walk of a page goes on from this place; the place itself where it stops. Q-6: "The queue must step over such places by the length at
+   the copy." */
+static uint32_t next_place(const world *w, uint32_t at)
+{
+  if (is_copied(w, at))
+    return at + size_of(w->heap[copy_of(w, at)]);
+  if (is_header(w->heap, w->r, at))
+    return at + size_of(w->heap[at]);
+  return at;
+}
+
+/* Step 3. The queue and the page of copies grow while they are swept. */
 static void sweep_queue(world *w)
 {
-  uint32_t next, at, i;
+  uint32_t next, at;
   for (next = 0; next < w->queued; next++) {
-    uint32_t page = w->queue[next];
-    at = page * w->r.page;
-    while (at < (page + 1) * w->r.page && is_header(w->heap, w->r, at)) {
-      for (i = 0; i < refs_of(w->heap[at]); i++)
-        w->heap[at + 1 + i] = forward(w, w->heap[at + 1 + i]);
-      at = at + size_of(w->heap[at]);
+    uint32_t end = (w->queue[next] + 1) * w->r.page;
+    at = end - w->r.page;
+    while (at < end && next_place(w, at) != at) {
+      if (!is_copied(w, at))
+        sweep_object(w, at);
+      at = next_place(w, at);
+    }
+  }
+}
+
+/* Q-6: "At the end its old place becomes a filler of the same length, no references, zeros." */
+static void put_filler(world *w, uint32_t place)
+{
+  uint32_t n = size_of(w->heap[copy_of(w, place)]), i;
+  w->heap[place] = n * 65536 + 1;
+  for (i = 1; i < n; i++)
+    w->heap[place + i] = 0;
+  w->fillers = w->fillers + 1;
+}
+
+/* The places copied out of are on kept pages; other pages with the new label have none. */
+static void put_fillers(world *w)
+{
+  uint32_t next, at;
+  for (next = 0; next < w->queued; next++) {
+    uint32_t end = (w->queue[next] + 1) * w->r.page;
+    at = end - w->r.page;
+    while (at < end && next_place(w, at) != at) {
+      if (is_copied(w, at))
+        put_filler(w, at);
+      at = next_place(w, at);
     }
   }
 }
@@ -480,6 +509,8 @@ static model_collected collected(uint32_t refusal, const world *w, model_record 
   c.taken = refusal ? 0 : w->taken;
   c.objects = refusal ? 0 : w->objects;
   c.words = refusal ? 0 : w->words;
+  c.kept = refusal ? 0 : w->kept;
+  c.fillers = refusal ? 0 : w->fillers;
   c.record = r;
   return c;
 }
@@ -488,7 +519,6 @@ model_collected model_collect(uint32_t *heap, size_t heap_len, uint16_t *labels,
                               model_record r, uint32_t *roots, size_t roots_len, const uint32_t *hints, size_t hints_len)
 {
   world w;
-  uint32_t k, words;
   size_t i;
   if (!good_layout(heap_len, labels, labels_len, links_len, r))
     return collected(layout, NULL, r);
@@ -509,13 +539,12 @@ model_collected model_collect(uint32_t *heap, size_t heap_len, uint16_t *labels,
   w.taken = 0;
   w.objects = 0;
   w.words = 0;
-  k = pages_in_use(labels, r);
-  words = words_unhinted(&w, hints, hints_len);
-  if (most_pages_taken(words, r.page) > r.pages - 1 - k)
-    return collected(no_room, NULL, r);
+  w.kept = 0;
+  w.fillers = 0;
   read_hints(&w, hints, hints_len);
   forward_roots(&w, roots, roots_len);
   sweep_queue(&w);
+  put_fillers(&w);
   free_old(&w);
   return collected(0, &w, w.r);
 }
@@ -536,6 +565,14 @@ uint32_t model_page_named_before(uint32_t word, uint32_t page, uint32_t pages)
   if (word == 0)
     return 0;
   return model_page_named(word - 1, page, pages);
+}
+
+/* Q-3: "a collection takes at most 2*floor(W / (P + 1)) + 1 pages if W is at least 1, else none". */
+static uint32_t most_pages_taken(uint32_t words, uint32_t page)
+{
+  if (words == 0)
+    return 0;
+  return 2 * (words / (page + 1)) + 1;
 }
 
 /* "How many pages a collection may need." Q-3: it "takes W and P instead; a bad P gives 4,294,967,295". */

@@ -1,4 +1,4 @@
-/* model.h: the calls of document 01, with Q-1 to Q-5, as a plain model in C, written from the words alone. See model.c. The types have the
+/* model.h: the calls of document 01, with Q-1 to Q-6, as a plain model in C, written from the words alone. See model.c. The types have the
    fields of include/fouterpin.h's, so that one driver speaks to both. */
 #ifndef MODEL_H
 #define MODEL_H
@@ -16,7 +16,7 @@ typedef struct {
 } model_answer;
 
 typedef struct {
-  uint32_t refusal, hinted, taken, objects, words;
+  uint32_t refusal, hinted, taken, objects, words, kept, fillers;
   model_record record;
 } model_collected;
 

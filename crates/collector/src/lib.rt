@@ -1,19 +1,15 @@
-// Collect: its tests in the order 1, 7, 6, 8, and then the four steps. Nothing lent is changed before all tests have passed.
-use hints::unhinted;
+// Collect: its tests in the order 1, 7, 6, and then the four steps. Nothing lent is changed before all tests have passed.
 use layout::record;
-use layout::tables;
 use layout::walk;
-use numbers::pages;
 use rules::Collected;
 use rules::Record;
 ghost use mathlib.Core.Path.{_≡_};
-ghost use mathlib.Core.Bool.{true};
 ghost use mathlib.Core.List.{List};
 ghost use Prim.Native.Nat.{ℕ};
 ghost use Rattle.rules.specs.Ranges.{each};
-ghost use Rattle.rules.specs.Lent.{lent, isValid};
+ghost use Rattle.rules.specs.Lent.{lent};
 ghost use Rattle.rules.specs.Walk.{isReference};
-ghost use Rattle.rules.specs.Collect.{collectOutcome, hasRoom, refusalOfCollect, refusedCollect, collect};
+ghost use Rattle.rules.specs.Collect.{collectOutcome, refusalOfCollect, refusedCollect, collect};
 
 // Each root cell is 0 or an object start.
 fn are_roots_good(heap: &[u32], labels: &[u16], r: Record, roots: &[u32]) -> bool
@@ -29,32 +25,9 @@ fn are_roots_good(heap: &[u32], labels: &[u16], r: Record, roots: &[u32]) -> boo
     true
 }
 
-// As many pages are free as a collection may take. No more words are on unhinted pages than all pages in use have: where there is
-// room for as many, no hint is looked at and no page is walked. Otherwise the count of words is linear in hints and words.
-fn has_room(heap: &[u32], labels: &[u16], links: &[u16], r: Record, hints: &[u32]) -> bool
-    requires { ⌜ isValid (lent (now heap) (now labels) (now links) r) ≡ true ⌝ }
-    ensures { λ x. ⌜ x ≡ hasRoom (lent (now (heap .entry)) (now (labels .entry)) (now (links .entry)) r) (now (hints .entry)) ⌝ }
-{
-    let used = tables::pages_used(labels, 1, r.pages);
-    let free = r.pages - 1 - used;
-    if pages::pages_needed(used * r.page, r.page) <= free {
-        return true;
-    }
-    let words = unhinted::words_unhinted(heap, labels, r, hints);
-    let needed = pages::pages_needed(words, r.page);
-    needed <= free
-}
-
 // The refusal's number, 0 if all tests pass.
-fn refusal(
-    heap: &[u32],
-    labels: &[u16],
-    links: &[u16],
-    r: Record,
-    roots: &[u32],
-    hints: &[u32],
-) -> u32
-    ensures { λ x. ⌜ x ≡ refusalOfCollect (lent (now (heap .entry)) (now (labels .entry)) (now (links .entry)) r) (now (roots .entry)) (now (hints .entry)) ⌝ }
+fn refusal(heap: &[u32], labels: &[u16], links: &[u16], r: Record, roots: &[u32]) -> u32
+    ensures { λ x. ⌜ x ≡ refusalOfCollect (lent (now (heap .entry)) (now (labels .entry)) (now (links .entry)) r) (now (roots .entry)) ⌝ }
 {
     if !record::is_valid(heap, labels, links, r) {
         return 1;
@@ -65,13 +38,10 @@ fn refusal(
     if !are_roots_good(heap, labels, r, roots) {
         return 6;
     }
-    if !has_room(heap, labels, links, r, hints) {
-        return 8;
-    }
     0
 }
 
-// A refused collection's answer: its number, four zeros, and the record it was given.
+// A refused collection's answer: its number, six zeros, and the record it was given.
 fn refused(refusal: u32, r: Record) -> Collected
     ensures { λ x. ⌜ ((heap labels links roots : List ℕ) → collectOutcome x heap labels links roots ≡ refusedCollect refusal (lent heap labels links r) roots) ⌝ }
 {
@@ -81,6 +51,8 @@ fn refused(refusal: u32, r: Record) -> Collected
         taken: 0,
         objects: 0,
         words: 0,
+        kept: 0,
+        fillers: 0,
         rec: r,
     }
 }
@@ -96,7 +68,7 @@ pub fn collect(
 ) -> Collected
     ensures { λ x. ⌜ collectOutcome x (now (heap .exit)) (now (labels .exit)) (now (links .exit)) (now (roots .exit)) ≡ collect (lent (now (heap .entry)) (now (labels .entry)) (now (links .entry)) r) (now (roots .entry)) (now (hints .entry)) ⌝ }
 {
-    let number = refusal(heap, labels, links, r, roots, hints);
+    let number = refusal(heap, labels, links, r, roots);
     if number != 0 {
         return refused(number, r);
     }

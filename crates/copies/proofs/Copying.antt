@@ -1,6 +1,7 @@
 -- Laws of forwarding: the words of a copy, the copy of an object, one value case by case, and the roots in order.
 use mathlib.Core.Path.{_≡_, refl, sym, ap, _∙_}
 use mathlib.Core.Logic.{_⊎_, inl, inr}
+use mathlib.Core.Bool.{true, false}
 use mathlib.Core.List.{List, [], _∷_, _++_, append-nil, append-assoc}
 use Prim.Native.Nat.{ℕ, suc, _+_, _*_, _/_, _%_, _≤_, _<_}
 use native.Mathlib.Omega.{arith}
@@ -10,7 +11,7 @@ use lib.Seq.{sets, drop-cons, take-suc, take-suc-set, take-all, drop-set-lt, get
 use borrow.Author.Tests.{eq-eqb, ne-eqb}
 use Rattle.rules.specs.Ranges.{at}
 use Rattle.rules.specs.Header.{sizeOf}
-use Rattle.rules.specs.Collection.{Plan, State, Rooted, withRoom, top, put, copyObject, forward, forwardRoots}
+use Rattle.rules.specs.Collection.{Plan, State, Rooted, withRoom, top, put, copyObject, canCopy, keepObject, forward, forwardRoots}
 use Rattle.laws.specs.Safe.{SafeCopy, SafeForward, SafeRoots}
 use Rattle.hints.specs.declared.Shape.{Shape}
 use Rattle.hints.specs.Code.{plan}
@@ -101,18 +102,24 @@ module _ (k : Plan) (v : ℕ) (s : State) where
   forward-nil z = rw (eq-eqb v 0 z)
 
   module _ (z : v ≡ 0 → ⊥) where
-    pub forward-stays : at (s .pages .labels) (v / k .page) ≡ k .new → forwardedOf v s ≡ forward k v s
+    pub forward-copied : at (s .heap) v % 2 ≡ 0 → forwardedOf (at (s .heap) v / 2) s ≡ forward k v s
     unfolding forward
-    forward-stays l = rw (ne-eqb v 0 z, eq-eqb (at (s .pages .labels) (v / k .page)) (k .new) l)
+    forward-copied o = rw (ne-eqb v 0 z, eq-eqb (at (s .heap) v % 2) 0 o)
 
-    module _ (l : at (s .pages .labels) (v / k .page) ≡ k .new → ⊥) where
-      pub forward-copied : at (s .heap) v % 2 ≡ 0 → forwardedOf (at (s .heap) v / 2) s ≡ forward k v s
+    module _ (o : at (s .heap) v % 2 ≡ 0 → ⊥) where
+      pub forward-stays : at (s .pages .labels) (v / k .page) ≡ k .new → forwardedOf v s ≡ forward k v s
       unfolding forward
-      forward-copied o = rw (ne-eqb v 0 z, ne-eqb (at (s .pages .labels) (v / k .page)) (k .new) l, eq-eqb (at (s .heap) v % 2) 0 o)
+      forward-stays l = rw (ne-eqb v 0 z, ne-eqb (at (s .heap) v % 2) 0 o, eq-eqb (at (s .pages .labels) (v / k .page)) (k .new) l)
 
-      pub forward-copies : (at (s .heap) v % 2 ≡ 0 → ⊥) → copyObject k v s ≡ forward k v s
-      unfolding forward
-      forward-copies o = rw (ne-eqb v 0 z, ne-eqb (at (s .pages .labels) (v / k .page)) (k .new) l, ne-eqb (at (s .heap) v % 2) 0 o)
+      -- it is still to be copied: so it is, or its page is kept
+      module _ (l : at (s .pages .labels) (v / k .page) ≡ k .new → ⊥) where
+        pub forward-copies : canCopy k (sizeOf (at (s .heap) v)) (s .pages) ≡ true → copyObject k v s ≡ forward k v s
+        unfolding forward
+        forward-copies c = rw (ne-eqb v 0 z, ne-eqb (at (s .heap) v % 2) 0 o, ne-eqb (at (s .pages .labels) (v / k .page)) (k .new) l, c)
+
+        pub forward-keeps : canCopy k (sizeOf (at (s .heap) v)) (s .pages) ≡ false → keepObject k v s ≡ forward k v s
+        unfolding forward
+        forward-keeps c = rw (ne-eqb v 0 z, ne-eqb (at (s .heap) v % 2) 0 o, ne-eqb (at (s .pages .labels) (v / k .page)) (k .new) l, c)
 
 -- ---- the roots in order: those done, and what is left gives
 

@@ -2,11 +2,11 @@
 use mathlib.Core.Path.{_≡_, refl, sym, _∙_}
 use mathlib.Core.Logic.{_≢_}
 use mathlib.Core.Bool.{Bool, true, false}
-use mathlib.Core.List.{List}
+use mathlib.Core.List.{List, [], _∷_, _++_}
 use Prim.Native.Nat.{ℕ, zero, suc, _+_, _≤_, _<_}
 use native.Mathlib.Omega.{arith}
 use native.Mathlib.Decide.{ℕ-discrete}
-use lib.ListN.{length, set, take, length-set}
+use lib.ListN.{length, set, take}
 use lib.Seq.{getD-set-same, getD-set-other}
 use borrow.Author.Tests.{ne-eqb, le-leb, lt-leb}
 use Rattle.rules.specs.Ranges.{block, first}
@@ -16,7 +16,7 @@ use Rattle.laws.specs.Lists.{first-here, first-step}
 use Rattle.laws.specs.Safe.{SafeTake}
 use Rattle.hints.specs.declared.Shape.{Shape}
 use Rattle.hints.specs.Code.{plan}
-use Rattle.hints.specs.Queue.{queue-longer, queue-length}
+use Rattle.hints.specs.Queue.{Queued, queue-length}
 use Rattle.copies.specs.declared.Gather.{Gather}
 use Rattle.copies.specs.Code.{pagesOf, Tied, taken}
 
@@ -59,25 +59,24 @@ module _ (k : Shape) (labels links : List ℕ) (g : Gather) (q : ℕ) (S : SafeT
   lowest : q ≡ lowestFree labels 1 (k .pages)
   lowest = e ∙ T .cursor
 
-  pub take-fits : (q < length labels) × (q < 4096) × (g .tail < length links) × (g .tail < 4096)
+  -- it is there, and so is a place in the queue
+  pub take-fits : (g .tail < length labels) × (q < length labels) × (length labels ≤ 4096)
   take-fits =
       let n : length (take (g .tail) links) ≡ g .tail = queue-length links (g .tail) (T .queued .tail) in
-      let p : lowestFree labels 1 (k .pages) < k .pages = S .found in (
-        omega (arith, lowest, S .hi),
-        omega (arith, lowest, S .hi, S .few),
-        omega (arith, S .queue, T .queued .each),
-        omega (arith, S .queue, S .few),
-      )
+      let p : lowestFree labels 1 (k .pages) < k .pages = S .found in
+      (omega (arith, S .queue), omega (arith, lowest, S .hi), S .few)
 
-  pub take-is : pagesOf (set labels q (k .new)) (set links (g .tail) q) (taken g q) ≡ takePage (plan k) (pagesOf labels links g)
-  unfolding takePage
-  take-is = rw (lowest, queue-longer links (g .tail) (lowestFree labels 1 (k .pages)) (take-fits .2))
+  -- it joined
+  module _ (labels′ links′ : List ℕ) (l : labels′ ≡ set labels q (k .new)) where
+    pub take-is : take (g .tail + 1) links′ ≡ take (g .tail) links ++ (q ∷ []) → pagesOf labels′ links′ (taken g q) ≡ takePage (plan k) (pagesOf labels links g)
+    unfolding takePage
+    take-is j = rw (l, j, lowest)
 
-  pub take-tied : Tied k (set labels q (k .new)) (set links (g .tail) q) (taken g q)
-  take-tied = record {
-    queued = record { each = rw (length-set, length-set) (T .queued .each); tail = rw length-set (omega (arith, take-fits .2)) };
-    cursor = cursor-moves labels (k .new) (k .pages) q (S .new) lowest (omega (arith, take-fits .0, S .hi)) (take-fits .0);
-  }
+    pub take-tied : Queued labels′ links′ (g .tail + 1) → Tied k labels′ links′ (taken g q)
+    take-tied Q = record {
+      queued = Q;
+      cursor = rw l (cursor-moves labels (k .new) (k .pages) q (S .new) lowest (omega (arith, take-fits .1, S .hi)) (take-fits .1));
+    }
 
 module _ (k : Shape) (n : ℕ) (labels links : List ℕ) (g : Gather) where
   pub room-fits : g .fill + n ≤ k .page → pagesOf labels links g ≡ withRoom (plan k) n (pagesOf labels links g)

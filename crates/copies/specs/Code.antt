@@ -12,7 +12,7 @@ use Rattle.hints.specs.Queue.{Queued}
 use Rattle.copies.specs.declared.Gather.{Gather}
 
 abbrev pub pagesOf : List ℕ → List ℕ → Gather → Pages
-pagesOf labels links g = record { labels = labels; queue = take (g .tail) links; copy = g .copy; fill = g .fill }
+pagesOf labels links g = record { labels = labels; queue = take (g .tail) links; copy = g .copy; fill = g .fill; kept = g .kept }
 
 abbrev pub stateOf : List ℕ → List ℕ → List ℕ → Gather → State
 stateOf heap labels links g = record { heap = heap; pages = pagesOf labels links g; objects = g .objects; words = g .words; moves = [] }
@@ -33,8 +33,12 @@ pub record Tied (k : Shape) (labels links : List ℕ) (g : Gather) : Type 0 wher
 
 -- page q joined the queue, to be copied to
 abbrev pub taken : Gather → ℕ → Gather
-taken g q = record { tail = g .tail + 1; cursor = q + 1; copy = q; fill = 0; objects = g .objects; words = g .words }
+taken g q = record { tail = g .tail + 1; cursor = q + 1; copy = q; fill = 0; kept = g .kept; objects = g .objects; words = g .words }
 
 -- an object of n words was put at the fill
 abbrev pub copied : Gather → ℕ → Gather
-copied g n = record { tail = g .tail; cursor = g .cursor; copy = g .copy; fill = g .fill + n; objects = g .objects + 1; words = g .words + n }
+copied g n = record { tail = g .tail; cursor = g .cursor; copy = g .copy; fill = g .fill + n; kept = g .kept; objects = g .objects + 1; words = g .words + n }
+
+-- a page joined the queue, kept for want of room
+abbrev pub keeping : Gather → Gather
+keeping g = record { tail = g .tail + 1; cursor = g .cursor; copy = g .copy; fill = g .fill; kept = g .kept + 1; objects = g .objects; words = g .words }

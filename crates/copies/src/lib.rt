@@ -1,28 +1,32 @@
-// Forwarding: pages taken for copies, the copy of an object, one value, and step 2, the roots. These are no
-// calls for users: they are safe only where the tests of collect have passed, and their `requires` say so,
-// as in `phases`.
+// Forwarding: pages taken for copies, the copy of an object, pages kept where there is no room for one, one
+// value, and step 2, the roots. These are no calls for users: they are safe only where the tests of collect
+// have passed, and their `requires` say so, as in `phases`.
 use hints::Shape;
 use layout::tables;
 use numbers::header;
 ghost use mathlib.Core.Path.{_≡_};
 ghost use mathlib.Core.Logic.{_⊎_};
-ghost use Prim.Native.Nat.{_+_, _*_, _≤_, _<_};
+ghost use mathlib.Core.List.{List};
+ghost use Prim.Native.Nat.{ℕ, _+_, _/_, _≤_, _<_};
 ghost use lib.ListN.{length, take, drop};
 ghost use lib.Seq.{sets};
 ghost use Rattle.rules.specs.Ranges.{at};
 ghost use Rattle.rules.specs.Header.{sizeOf};
-ghost use Rattle.rules.specs.Collection.{takePage, withRoom, copyObject, forward, forwardRoots};
-ghost use Rattle.laws.specs.Safe.{SafeTake, SafeCopy, SafeForward, SafeRoots};
+ghost use Rattle.rules.specs.Pages.{lowestFree};
+ghost use Rattle.rules.specs.Collection.{takePage, withRoom, copyObject, canCopy, keepObject, forward, forwardRoots};
+ghost use Rattle.laws.specs.Safe.{SafeTake, SafeCopy, SafeKeep, SafeForward, SafeRoots};
 ghost use Rattle.hints.specs.Code.{plan};
-ghost use Rattle.copies.specs.Code.{pagesOf, stateOf, forwardedOf, rootedOf, Tied, taken, copied};
+ghost use Rattle.copies.specs.Code.{pagesOf, stateOf, forwardedOf, rootedOf, Tied, taken, copied, keeping};
 
 // The state of a collection beside the lent slices. The queue is links[0..tail); no page below the cursor
-// is free; copies go to the page `copy`, 0 before the first, at its fill; objects and words were copied.
+// is free; copies go to the page `copy`, 0 before the first, at its fill; the last `kept` pages of the queue
+// were kept for want of room; objects and words were copied.
 pub struct Gather {
     pub tail: u32,
     pub cursor: u32,
     pub copy: u32,
     pub fill: u32,
+    pub kept: u32,
     pub objects: u32,
     pub words: u32,
 }
@@ -54,6 +58,18 @@ impl Gather {
         self.words = words + n;
         self
     }
+
+    // A page joined the queue, kept for want of room.
+    fn keeping(mut self) -> Gather
+        requires { ⌜ (self .tail < 4096) × (self .kept < 4096) ⌝ }
+        ensures { λ r. ⌜ r ≡ keeping self ⌝ }
+    {
+        let tail = self.tail;
+        let kept = self.kept;
+        self.tail = tail + 1;
+        self.kept = kept + 1;
+        self
+    }
 }
 
 // What forwarding gives: the value, and the state after it.
@@ -63,7 +79,7 @@ pub struct Moved {
 }
 
 // The lowest-numbered free page is taken. No page below the cursor is free, so a whole collection looks
-// at each label once.
+// at each label twice at most, here and in `can_copy`.
 fn take_page(labels: &mut [u16], links: &mut [u16], k: Shape, g: Gather) -> Gather
     requires { ⌜ SafeTake (plan k) (pagesOf (now labels) (now links) g) ⌝ }
     requires { ⌜ Tied k (now labels) (now links) g ⌝ }
@@ -72,10 +88,7 @@ fn take_page(labels: &mut [u16], links: &mut [u16], k: Shape, g: Gather) -> Gath
     ensures { λ r. ⌜ (r .objects ≡ g .objects) × (r .words ≡ g .words) ⌝ }
 {
     let page = tables::lowest_free(labels, g.cursor, k.pages);
-    let at = page as usize;
-    labels[at] = k.new;
-    let tail = g.tail as usize;
-    links[tail] = page as u16;
+    hints::join(labels, links, k, g.tail, page);
     g.taken(page)
 }
 
@@ -133,8 +146,47 @@ fn copy_object(
     Moved { value: top, gather }
 }
 
-// One value: 0 gives 0, an object on a page with the new label gives itself, an object already copied
-// gives its copy, and any other object is copied.
+// Whether an object of n words can be copied, whatever is in the queue: no page was kept so far, and it fits
+// the copy page or a page is free.
+fn can_copy(labels: &[u16], k: Shape, g: Gather, n: u32) -> bool
+    requires { ⌜ g .fill ≤ k .page ⌝ }
+    requires { ⌜ lowestFree (now labels) (g .cursor) (k .pages) ≡ lowestFree (now labels) 1 (k .pages) ⌝ }
+    ensures { λ r. ⌜ ((links : List ℕ) → r ≡ canCopy (plan k) n (pagesOf (now (labels .entry)) links g)) ⌝ }
+{
+    if g.kept != 0 {
+        return false;
+    }
+    if n <= k.page - g.fill {
+        return true;
+    }
+    tables::lowest_free(labels, g.cursor, k.pages) < k.pages
+}
+
+// The object at this address, which can't be copied, stays, and its page is kept: it gets the new label and
+// joins the queue, so that all that is on it and was not copied is swept.
+fn keep_object(
+    labels: &mut [u16],
+    links: &mut [u16],
+    k: Shape,
+    start: Gather,
+    address: u32,
+) -> Moved
+    requires { ⌜ (0 < k .page) × (address / k .page < length (now labels)) ⌝ }
+    requires { ⌜ SafeKeep (plan k) (address / k .page) (pagesOf (now labels) (now links) start) ⌝ }
+    requires { ⌜ Tied k (now labels) (now links) start ⌝ }
+    ensures { λ r. ⌜ ((heap : List ℕ) → forwardedOf (r .value) (stateOf heap (now (labels .exit)) (now (links .exit)) (r .gather)) ≡ keepObject (plan k) address (stateOf heap (now (labels .entry)) (now (links .entry)) start)) ⌝ }
+    ensures { λ r. ⌜ Tied k (now (labels .exit)) (now (links .exit)) (r .gather) ⌝ }
+{
+    hints::join(labels, links, k, start.tail, address / k.page);
+    let gather = start.keeping();
+    Moved {
+        value: address,
+        gather,
+    }
+}
+
+// One value: 0 gives 0, an object already copied gives its copy, also where its page was kept since, an
+// object on a page with the new label gives itself, and any other object is copied, or its page kept.
 pub fn forward(
     heap: &mut [u32],
     labels: &mut [u16],
@@ -151,10 +203,6 @@ pub fn forward(
     if value == 0 {
         return Moved { value: 0, gather };
     }
-    let page = (value / k.page) as usize;
-    if labels[page] == k.new {
-        return Moved { value, gather };
-    }
     let x = value as usize;
     let word = heap[x];
     if word % 2 == 0 {
@@ -163,7 +211,14 @@ pub fn forward(
             gather,
         };
     }
-    copy_object(heap, labels, links, k, gather, value)
+    let page = (value / k.page) as usize;
+    if labels[page] == k.new {
+        return Moved { value, gather };
+    }
+    if can_copy(labels, k, gather, header::size_of(word) as u32) {
+        return copy_object(heap, labels, links, k, gather, value);
+    }
+    keep_object(labels, links, k, gather, value)
 }
 
 // Step 2: each root cell, in order and in place.

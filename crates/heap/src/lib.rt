@@ -1,6 +1,6 @@
 // Start and allocate over lent memory. Each answers every input: its contract is one equation with its definition in `rules`, refusals
 // included. The checks go in the order of the table of refusals.
-mod object;
+pub mod object;
 
 use layout::record;
 use layout::tables;

@@ -18,7 +18,7 @@ use Rattle.laws.specs.Pages.{before-same}
 use Rattle.laws.specs.Safe.{SafeHint, SafeHints}
 use Rattle.hints.specs.declared.Shape.{Shape}
 use Rattle.hints.specs.Code.{plan, hintedOf}
-use Rattle.hints.specs.Queue.{Queued, queue-longer, queue-length}
+use Rattle.hints.specs.Queue.{Queued, queue-length}
 
 -- ---- a hint word
 
@@ -45,17 +45,19 @@ module _ (k : Shape) (labels links : List ℕ) (n q : ℕ) where
   unfolding hintPage
   hint-not ne = rw (ne-eqb (at labels q) (k .old) ne)
 
-  pub hint-joins : at labels q ≡ k .old → n < length links
-      → hintedOf k (set labels q (k .new)) (set links n q) (n + 1) ≡ hintPage (plan k) q (hintedOf k labels links n)
-  unfolding hintPage
-  hint-joins e t = rw (eq-eqb (at labels q) (k .old) e, queue-longer links n q t)
-
-  -- there is a place in the queue
-  pub hint-fits : SafeHint (plan k) (hintedOf k labels links n) → Queued labels links n → at labels q ≡ k .old → (n < length links) × (n < 4096)
-  hint-fits S Q e =
+  -- it has the old label, so there is a place in the queue
+  pub hint-fits : SafeHint (plan k) (hintedOf k labels links n) → Queued labels links n → q < k .pages → at labels q ≡ k .old
+      → (n < length labels) × (q < length labels) × (length labels ≤ 4096)
+  hint-fits S Q p e =
       let z : length (take n links) ≡ n = queue-length links n (Q .tail) in
       let s = S .queue q e in
-      (omega (arith, S .labels, Q .each), omega (arith, S .few))
+      (omega (arith, S .labels), omega (arith, S .labels), omega (arith, S .labels, S .few))
+
+  -- and joins, as `join` leaves it
+  pub hint-joins : at labels q ≡ k .old → (labels′ links′ : List ℕ) (r : ℕ) → (r ≡ n + 1) × (labels′ ≡ set labels q (k .new)) × (take (n + 1) links′ ≡ take n links ++ (q ∷ []))
+      → hintedOf k labels′ links′ r ≡ hintPage (plan k) q (hintedOf k labels links n)
+  unfolding hintPage
+  hint-joins e labels′ links′ r J = rw (eq-eqb (at labels q) (k .old) e, J .0, J .1, J .2)
 
   pub queued-joined : Queued labels links n → n < length links → Queued (set labels q (k .new)) (set links n q) (n + 1)
   queued-joined Q t = record { each = rw (length-set, length-set) (Q .each); tail = rw length-set (omega arith) }
@@ -68,11 +70,11 @@ unfolding hintPage
 hint-twice K g s ne h = go (eqb (at (s .labels) g) (K .old)) refl
   where
     once : Bool → Pages
-    once b = cond b (record { labels = set (s .labels) g (K .new); queue = s .queue ++ (g ∷ []); copy = s .copy; fill = s .fill }) s
+    once b = cond b (record { labels = set (s .labels) g (K .new); queue = s .queue ++ (g ∷ []); copy = s .copy; fill = s .fill; kept = s .kept }) s
 
     go : (b : Bool) → eqb (at (s .labels) g) (K .old) ≡ b
         → cond (eqb (at (once b .labels) g) (K .old))
-        (record { labels = set (once b .labels) g (K .new); queue = once b .queue ++ (g ∷ []); copy = once b .copy; fill = once b .fill }) (once b) ≡ once b
+        (record { labels = set (once b .labels) g (K .new); queue = once b .queue ++ (g ∷ []); copy = once b .copy; fill = once b .fill; kept = once b .kept }) (once b) ≡ once b
     go true e = rw (getD-set-same (s .labels) g (K .new) 0 h, ne-eqb (K .new) (K .old) ne)
     go false e = rw e
 

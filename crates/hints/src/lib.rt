@@ -1,14 +1,13 @@
 // Step 1: the pages that hint words name stay in place. Each gets the new label and joins the queue, once.
-// There is no copy page yet, so the queue's length is all that the code keeps beside the lent slices. And,
-// before the steps, the words on pages that no hint names. These are no calls for users: they are safe only
-// where tests of collect have passed, and their `requires` say so, as in `phases`.
-pub mod unhinted;
-
+// There is no copy page yet, so the queue's length is all that the code keeps beside the lent slices. These
+// are no calls for users: they are safe only where tests of collect have passed, and their `requires` say
+// so, as in `phases`.
 use layout::record;
 use numbers::pages;
 ghost use mathlib.Core.Path.{_≡_};
-ghost use Prim.Native.Nat.{_<_};
-ghost use lib.ListN.{length};
+ghost use mathlib.Core.List.{[], _∷_, _++_};
+ghost use Prim.Native.Nat.{_+_, _≤_, _<_};
+ghost use lib.ListN.{length, set, take};
 ghost use Rattle.rules.specs.Pages.{pagesOfHint, pagesNamed};
 ghost use Rattle.rules.specs.Collection.{hintPage, hintPages};
 ghost use Rattle.laws.specs.Safe.{SafeHint, SafeHints};
@@ -23,6 +22,21 @@ pub struct Shape {
     pub new: u16,
 }
 
+// A page gets the new label and joins the queue, which has `queued` pages: a hinted one, one taken for
+// copies, one kept. What comes back is the queue's length.
+pub fn join(labels: &mut [u16], links: &mut [u16], k: Shape, queued: u32, page: u32) -> u32
+    requires { ⌜ Queued (now labels) (now links) queued ⌝ }
+    requires { ⌜ (queued < length (now labels)) × (page < length (now labels)) × (length (now labels) ≤ 4096) ⌝ }
+    ensures { λ r. ⌜ (r ≡ queued + 1) × (now (labels .exit) ≡ set (now (labels .entry)) page (k .new)) × (take (queued + 1) (now (links .exit)) ≡ take queued (now (links .entry)) ++ (page ∷ [])) ⌝ }
+    ensures { λ r. ⌜ Queued (now (labels .exit)) (now (links .exit)) (queued + 1) ⌝ }
+{
+    let at = page as usize;
+    labels[at] = k.new;
+    let tail = queued as usize;
+    links[tail] = page as u16;
+    queued + 1
+}
+
 // The queue's length once `page` is named, 0 for none. Page 0 never has the old label, nor has a page that
 // was named before.
 fn hint_page(labels: &mut [u16], links: &mut [u16], k: Shape, queued: u32, page: u32) -> u32
@@ -32,14 +46,10 @@ fn hint_page(labels: &mut [u16], links: &mut [u16], k: Shape, queued: u32, page:
     ensures { λ r. ⌜ hintedOf k (now (labels .exit)) (now (links .exit)) r ≡ hintPage (plan k) page (hintedOf k (now (labels .entry)) (now (links .entry)) queued) ⌝ }
     ensures { λ r. ⌜ Queued (now (labels .exit)) (now (links .exit)) r ⌝ }
 {
-    let at = page as usize;
-    if record::label_at(labels, at) != k.old {
+    if record::label_at(labels, page as usize) != k.old {
         return queued;
     }
-    labels[at] = k.new;
-    let tail = queued as usize;
-    links[tail] = page as u16;
-    queued + 1
+    join(labels, links, k, queued, page)
 }
 
 // One hint word: its own page, and then that of the word before. Unless the word begins a page they are one.

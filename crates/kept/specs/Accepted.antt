@@ -3,12 +3,12 @@
 use mathlib.Core.Path.{_≡_, refl, sym, _∙_}
 use mathlib.Core.Logic.{_⊎_, inl, inr}
 use mathlib.Core.Bool.{Bool, true, false, _||_}
-use mathlib.Core.List.{List, List·Memᴰ}
+use mathlib.Core.List.{List}
 use Prim.Native.Nat.{ℕ, _+_, _*_, _-_, _≤_, _<_}
 use native.Mathlib.Omega.{arith}
 use lib.ListN.{set}
 use lib.Dec.{leb, ltb}
-use borrow.Author.Tests.{leb-true, leb-false, ltb-true, ltb-false, not-true}
+use borrow.Author.Tests.{leb-true, leb-false, ltb-true}
 use Rattle.rules.specs.declared.Found.the-variants.{Start}
 use Rattle.rules.specs.Tests.{and-left, and-right}
 use Rattle.rules.specs.Ranges.{at, each}
@@ -19,14 +19,15 @@ use Rattle.rules.specs.Walk.{isReference, found}
 use Rattle.rules.specs.Sound.{IsObject, refs, payload, Valid, isSound, Sound}
 use Rattle.rules.specs.Calls.{Outcome, refused, inside, accepted, started, start, withObject, goodShape, fitsOpen, mayTake, newPage, allocate, lookUp, load, mayStore, stored, store}
 use Rattle.rules.specs.Collection.{plainly, collection}
-use Rattle.rules.specs.Collect.{CollectOutcome, neededFor, pagesFree, hasRoom, refusalOfCollect, acceptedCollect, collect}
+use Rattle.rules.specs.Collect.{CollectOutcome, refusalOfCollect, acceptedCollect, collect}
+use Rattle.rules.specs.Demands.{GoodRoots}
 use Rattle.laws.specs.Lists.{each-true}
 use Rattle.laws.specs.Valid.{valid-says, valid-layout}
 use Rattle.laws.specs.LookUp.{reference-says, found-object}
 use Rattle.laws.specs.Sound.{sound-says}
 use Rattle.laws.specs.Walk.{size}
 use Rattle.kept.specs.Refusals.{by-test, by-found, look-up-on}
-use Rattle.laws.specs.Collect.{collect-refusal}
+use Rattle.laws.specs.Collect.{collect-refusal, collect-accepts}
 
 -- no refusal but 0 is 0
 not-accepted : {A : Type 0} (e : ℕ) (m : Lent) → 1 ≤ e → refused e m .refusal ≡ 0 → A
@@ -167,24 +168,22 @@ store-says m a i v =
 
 pub record CollectOk (m : Lent) (cells hints : List ℕ) (o : CollectOutcome) : Type 0 where
   pub sound : Sound m
-  pub roots : (r : ℕ) → List·Memᴰ r cells → (r ≡ 0) ⊎ IsObject m r
-  pub room : neededFor m hints ≤ pagesFree m
+  pub roots : GoodRoots m cells
   pub is : o ≡ acceptedCollect (collection plainly m cells hints)
 
 pub collect-says : (m : Lent) (roots hints : List ℕ) → collect m roots hints .refusal ≡ 0 → CollectOk m roots hints (collect m roots hints)
-unfolding collect refusalOfCollect hasRoom
+unfolding refusalOfCollect
 collect-says m roots hints z =
     by-test Ok (isValid m) _ _ (λ valid.
     by-test Ok (isSound m) _ _ (λ sound.
-    by-test Ok (each (isReference m) roots) _ _ (λ good.
-    by-test Ok (hasRoom m hints) _ _ (λ room n. record {
+    by-test Ok (each (isReference m) roots) _ _ (λ good n. record {
       sound = sound-says m sound;
       roots = λ r k. reference-says m r (each-true (isReference m) roots good r k);
-      room = ltb-false _ _ (not-true _ room);
-      is = rw none refl;
-    }) (λ e n. absurd (omega arith))) (λ e n. absurd (omega arith))) (λ e n. absurd (omega arith))) (λ e n. absurd (omega arith)) none
+      is = collect-accepts m roots hints none;
+    })
+    (λ e n. absurd (omega arith))) (λ e n. absurd (omega arith))) (λ e n. absurd (omega arith)) none
   where
-    none : refusalOfCollect m roots hints ≡ 0
+    none : refusalOfCollect m roots ≡ 0
     none = sym (collect-refusal m roots hints) ∙ z
 
     Ok : ℕ → Type 0

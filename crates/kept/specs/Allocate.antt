@@ -1,8 +1,9 @@
 -- Allocate keeps a sound heap sound. It trusts fill: on a sound heap the walk of the open page stops exactly there, and only
 -- zeros follow; and a free page holds only zeros, so its walk stops at its first word. Either is a `Place`.
+-- And it loses no object, and answers the address of one.
 use mathlib.Core.Path.{_≡_, refl, sym, ap, _∙_, subst}
 use mathlib.Core.Logic.{_⊎_, inl, inr}
-use mathlib.Core.List.{[], List·Memᴰ, List·Memᴰ·not-nil}
+use mathlib.Core.List.{List, [], List·Memᴰ, List·Memᴰ·not-nil}
 use Prim.Native.Nat.{ℕ, _+_, _*_, _-_, _/_, _≤_, _<_}
 use native.Mathlib.Nat.{add-zero}
 use native.Mathlib.Omega.{arith}
@@ -12,8 +13,8 @@ use Rattle.rules.specs.Ranges.{at}
 use Rattle.rules.specs.Pages.{pagesUsed}
 use Rattle.rules.specs.Lent.{Lent}
 use Rattle.rules.specs.Walk.{starts, stop}
-use Rattle.rules.specs.Sound.{Opened, Sound}
-use Rattle.rules.specs.Calls.{Outcome, accepted, newPage, allocate}
+use Rattle.rules.specs.Sound.{IsObject, Opened, Sound}
+use Rattle.rules.specs.Calls.{Outcome, accepted, withObject, newPage, allocate}
 use Rattle.laws.specs.Headers.{header-zero}
 use Rattle.laws.specs.Pages.{on-page}
 use Rattle.laws.specs.Walk.{Steps, stops, page-steps}
@@ -21,7 +22,7 @@ use Rattle.laws.specs.FreePages.{Lowest, lowest-free}
 use Rattle.laws.specs.Objects.{page-pos, label-used, met-object}
 use Rattle.kept.specs.Refusals.{by-refusal, allocate-refused}
 use Rattle.kept.specs.Accepted.{AtFill, OnNewPage, AllocateOk, allocate-says}
-use Rattle.kept.specs.Place.{Place, placed-sound}
+use Rattle.kept.specs.Place.{Place, object-new, object-after, placed-sound}
 
 module _ (m : Lent) (S : Sound m) (d p : ℕ) where
   -- at fill of the open page
@@ -79,11 +80,52 @@ module _ (m : Lent) (S : Sound m) (d p : ℕ) where
       blank : (w : ℕ) → w / m .rec .page ≡ newPage m → at (m .heap) w ≡ 0
       blank w q = S .blank w (ap (at (m .labels)) q ∙ new .free)
 
+-- where an accepted allocation put its object; it answers the address
+record Put (m : Lent) (d p : ℕ) (o : Outcome) : Type 0 where
+  page : ℕ
+  offset : ℕ
+  labels : List ℕ
+  met : List ℕ
+  place : Place m page offset d p labels met
+  is : o ≡ accepted (page * m .rec .page + offset) (withObject m page offset d p labels)
+
+allocate-put : (m : Lent) (d p : ℕ) → Sound m → allocate m d p .refusal ≡ 0 → Put m d p (allocate m d p)
+allocate-put m d p S z = let ok = allocate-says m d p z in put _ ok (ok .placed)
+  where
+    put : (o : Outcome) → AllocateOk m d p o → AtFill m d p o ⊎ OnNewPage m d p o → Put m d p o
+    put o ok (inl a) = record {
+      page = m .rec .opened;
+      offset = m .rec .fill;
+      labels = m .labels;
+      met = starts m (m .rec .opened);
+      place = place-at-fill m S d p (a .fits) (ok .refs);
+      is = a .is;
+    }
+    put o ok (inr n) = record {
+      page = newPage m;
+      offset = 0;
+      labels = set (m .labels) (newPage m) (m .rec .label);
+      met = [];
+      place = place-new m S d p (n .room) (ok .small) (ok .refs);
+      is = rw (add-zero (newPage m * m .rec .page)) (n .is);
+    }
+
 pub allocate-sound : (m : Lent) (d p : ℕ) → Sound m → Sound (allocate m d p .lent)
 unfolding accepted
 allocate-sound m d p S =
-    by-refusal (allocate m d p) (λ z. let ok = allocate-says m d p z in made _ ok (ok .placed)) (λ n. subst Sound (sym (allocate-refused m d p n .lent)) S)
-  where
-    made : (o : Outcome) → AllocateOk m d p o → AtFill m d p o ⊎ OnNewPage m d p o → Sound (o .lent)
-    made o ok (inl a) = subst (λ (o : Outcome). Sound (o .lent)) (sym (a .is)) (placed-sound m S _ _ d p _ _ (place-at-fill m S d p (a .fits) (ok .refs)))
-    made o ok (inr n) = subst (λ (o : Outcome). Sound (o .lent)) (sym (n .is)) (placed-sound m S _ _ d p _ _ (place-new m S d p (n .room) (ok .small) (ok .refs)))
+    by-refusal (allocate m d p)
+    (λ z. let q = allocate-put m d p S z in subst (λ (o : Outcome). Sound (o .lent)) (sym (q .is)) (placed-sound m S _ _ d p _ _ (q .place)))
+    (λ n. subst Sound (sym (allocate-refused m d p n .lent)) S)
+
+-- an accepted allocation leaves every object that was there, and one at the address answered
+module _ (m : Lent) (d p : ℕ) (S : Sound m) (z : allocate m d p .refusal ≡ 0) where
+  q : Put m d p (allocate m d p)
+  q = allocate-put m d p S z
+
+  pub allocate-keeps : (b : ℕ) → IsObject m b → IsObject (allocate m d p .lent) b
+  unfolding accepted
+  allocate-keeps b o = subst (λ (o : Outcome). IsObject (o .lent) b) (sym (q .is)) (object-after m S _ _ d p _ _ (q .place) b o)
+
+  pub allocate-new : IsObject (allocate m d p .lent) (allocate m d p .value)
+  unfolding accepted
+  allocate-new = subst (λ (o : Outcome). IsObject (o .lent) (o .value)) (sym (q .is)) (object-new m S _ _ d p _ _ (q .place))

@@ -141,7 +141,14 @@ module _ (m : Lent) (S : Sound m) (g f d p : ℕ) (labels met : List ℕ) (A : P
   unfolding withObject
   used-here = record { low = A .low; high = A .high; label = A .label }
 
-  object-after : (b : ℕ) → IsObject m b → IsObject after b
+  met-here : List·Memᴰ z (starts after g)
+  met-here = subst (List·Memᴰ z) (sym (walk-here .0)) (Memᴰ·append-right met (List·Memᴰ·head refl))
+
+  pub object-new : IsObject after z
+  unfolding withObject
+  object-new = met-object after pos g z used-here met-here
+
+  pub object-after : (b : ℕ) → IsObject m b → IsObject after b
   unfolding withObject
   object-after b o = go (ℕ-discrete (b / m .rec .page) g)
     where
@@ -217,7 +224,7 @@ module _ (m : Lent) (S : Sound m) (g f d p : ℕ) (labels met : List ℕ) (A : P
       label k (no n) = subst (λ (v : ℕ). (v ≡ 0) ⊎ (v ≡ m .rec .label)) (sym (A .others k n)) (S .labels k)
 
       some : (k : ℕ) → InUse after k → Dec (k ≡ g) → (a : ℕ) × List·Memᴰ a (starts after k)
-      some k u (yes q) = (z, subst (λ (j : ℕ). List·Memᴰ z (starts after j)) (sym q) (subst (List·Memᴰ z) (sym (walk-here .0)) (Memᴰ·append-right met (List·Memᴰ·head refl))))
+      some k u (yes q) = (z, subst (λ (j : ℕ). List·Memᴰ z (starts after j)) (sym q) met-here)
       some k u (no n) = let (a, mem) = S .some k (used-before k n u) in (a, subst (List·Memᴰ a) (sym (walk-other k n .0)) mem)
 
       tail : (k w : ℕ) → InUse after k → w / m .rec .page ≡ k → stop after k ≤ w → Dec (k ≡ g) → at (after .heap) w ≡ 0

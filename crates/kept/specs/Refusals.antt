@@ -164,9 +164,9 @@ module _ (m : Lent) (a : ℕ) where
       by-test (RefusedAt m a) (ltb i (sizeOf w - 1)) _ _ (λ index.
       by-test (RefusedAt m a) (mayStore m w i v) _ _ (λ value. accepted-at _ _) (λ e. refused-at 6 (omega arith))) (λ e. refused-at 5 (omega arith)))
 
--- collect's four counts are zeros, and the root cells stay
+-- collect's six counts are zeros, and the root cells stay
 pub collect-refused : (m : Lent) (roots hints : List ℕ) → collect m roots hints .refusal ≢ 0 → SameCollected m roots (collect m roots hints)
 unfolding collect refusedCollect
 collect-refused m roots hints n =
-    rw (ne-eqb (refusalOfCollect m roots hints) 0 (λ e. n (collect-refusal m roots hints ∙ e)))
-    (record { lent = refl; roots = refl; hinted = refl; taken = refl; objects = refl; words = refl })
+    rw (ne-eqb (refusalOfCollect m roots) 0 (λ e. n (collect-refusal m roots hints ∙ e)))
+    (record { lent = refl; roots = refl; hinted = refl; taken = refl; objects = refl; words = refl; kept = refl; fillers = refl })

@@ -142,3 +142,10 @@ store-sound m a i v S =
     by-refusal (store m a i v)
     (λ z. let ok = store-says m a i v z in subst (λ (o : Outcome). Sound (o .lent)) (sym (ok .is)) (stored-sound m S a i v _ ok))
     (λ n. subst Sound (sym (store-refused m a i v n .lent)) S)
+
+-- an accepted store leaves every object that was there
+pub store-keeps : (m : Lent) (a i v : ℕ) → Sound m → store m a i v .refusal ≡ 0 → (b : ℕ) → IsObject m b → IsObject (store m a i v .lent) b
+unfolding accepted
+store-keeps m a i v S z b o =
+    let ok = store-says m a i v z in
+    subst (λ (o : Outcome). IsObject (o .lent) b) (sym (ok .is)) (object-after m S a i v _ ok b o)

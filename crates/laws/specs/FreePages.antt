@@ -85,6 +85,24 @@ first-from f e (suc n) lo h = go (f lo) refl (first-from f e n (suc lo)) h
     go true q ih p = (omega arith, omega arith, q)
     go false q ih p = let r = ih (omega arith) in (omega (arith, r .0), omega (arith, r .1), r .2)
 
+first-none : (f : ℕ → Bool) (e n lo : ℕ) → count f (from lo n) ≡ 0 → first f (from lo n) e ≡ e
+unfolding from count first
+first-none f e zero lo h = refl
+first-none f e (suc n) lo h = go (f lo) (first-none f e n (suc lo)) h
+  where
+    go : (b : Bool) → (count f (from (suc lo) n) ≡ 0 → first f (from (suc lo) n) e ≡ e) → cond b 1 0 + count f (from (suc lo) n) ≡ 0 → cond b lo (first f (from (suc lo) n) e) ≡ e
+    go true ih p = absurd (omega arith)
+    go false ih p = ih (omega arith)
+
+count-some : (f : ℕ → Bool) (g n lo : ℕ) → lo ≤ g → g < lo + n → f g ≡ true → 0 < count f (from lo n)
+unfolding from count
+count-some f g zero lo a b e = absurd (omega arith)
+count-some f g (suc n) lo a b e = go (ℕ-discrete lo g) (count-some f g n (suc lo))
+  where
+    go : Dec (lo ≡ g) → (suc lo ≤ g → g < suc lo + n → f g ≡ true → 0 < count f (from (suc lo) n)) → 0 < cond (f lo) 1 0 + count f (from (suc lo) n)
+    go (yes q) ih = rw (ap f q ∙ e) (omega arith)
+    go (no q) ih = omega (arith, ih (omega arith) (omega arith) e)
+
 -- ---- free pages of a block
 
 unfoldable pub freePages : List ℕ → ℕ → ℕ → ℕ
@@ -113,6 +131,21 @@ unfolding freePages lowestFree block
 lowest labels lo hi h =
     let (low, high, free) = first-from (isFree labels) hi (hi - lo) lo h in
     record { low = low; high = omega arith; free = free-says labels _ free }
+
+-- a page that is found is free; and where none is found, none is
+pub lowest-found : (labels : List ℕ) (lo hi : ℕ) → lowestFree labels lo hi < hi → Lowest labels lo hi
+unfolding freePages lowestFree block
+lowest-found labels lo hi h = go (ℕ-discrete (freePages labels lo hi) 0)
+  where
+    go : Dec (freePages labels lo hi ≡ 0) → Lowest labels lo hi
+    go (yes e) = absurd (omega (arith, first-none (isFree labels) hi (hi - lo) lo e))
+    go (no n) = lowest labels lo hi (omega arith)
+
+pub none-free : (labels : List ℕ) (lo hi : ℕ) → hi ≤ lowestFree labels lo hi → (g : ℕ) → lo ≤ g → g < hi → at labels g ≢ 0
+unfolding freePages block
+none-free labels lo hi h g a b e =
+    let L : Lowest labels lo hi = lowest labels lo hi (count-some (isFree labels) g (hi - lo) lo a (omega arith) (free-is labels g e)) in
+    omega (arith, L .high)
 
 -- pages in use and free pages are all
 pub used-and-free : (labels : List ℕ) (lo hi : ℕ) → pagesUsed labels lo hi + freePages labels lo hi ≡ hi - lo

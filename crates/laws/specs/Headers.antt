@@ -1,4 +1,5 @@
--- Laws of header words: what the test tells, and that a header made is one.
+-- Laws of the words that places begin with: what the tests for a header and for an object that was copied tell, and that a header
+-- made is one.
 use mathlib.Core.Path.{_≡_, refl}
 use mathlib.Core.Bool.{Bool, true, false}
 use Prim.Native.Nat.{ℕ, _+_, _*_, _-_, _%_, _≤_, _<_}
@@ -7,6 +8,7 @@ use lib.Dec.{eqb, leb}
 use borrow.Author.Tests.{eqb-true, leb-true, eq-eqb, le-leb}
 use Rattle.rules.specs.Tests.{and-left, and-right, and-is}
 use Rattle.rules.specs.Header.{headerOf, sizeOf, refsOf, isHeader}
+use Rattle.rules.specs.Collection.{isLeft}
 
 -- n is at least 1 and p is at most n - 1: p < n
 pub record Header (w room : ℕ) : Type 0 where
@@ -58,6 +60,47 @@ header-full w = go (isHeader w 0) refl
 pub header-zero : (room : ℕ) → isHeader 0 room ≡ false
 unfolding isHeader
 header-zero room = refl
+
+-- ---- a word that an object left when it was copied
+
+pub record Left (w room : ℕ) : Type 0 where
+  pub even : w % 2 ≡ 0
+  pub some : 1 ≤ w
+  pub within : 1 ≤ room
+
+pub left-says : (w room : ℕ) → isLeft w room ≡ true → Left w room
+unfolding isLeft
+left-says w room e =
+    let e1 = and-right (eqb (w % 2) 0) _ e in
+    record { even = eqb-true _ _ (and-left _ _ e); some = leb-true _ _ (and-left _ _ e1); within = leb-true _ _ (and-right (leb 1 w) _ e1) }
+
+pub left-is : (w room : ℕ) → Left w room → isLeft w room ≡ true
+unfolding isLeft
+left-is w room h = and-is (eq-eqb _ _ (h .even)) (and-is (le-leb _ _ (h .some)) (le-leb _ _ (h .within)))
+
+left-not : (w room : ℕ) → (Left w room → ⊥) → isLeft w room ≡ false
+left-not w room n = go (isLeft w room) refl
+  where
+    go : (b : Bool) → isLeft w room ≡ b → b ≡ false
+    go false e = refl
+    go true e = absurd (n (left-says w room e))
+
+pub left-odd : (w room : ℕ) → w % 2 ≡ 1 → isLeft w room ≡ false
+left-odd w room o = left-not w room (λ h. omega (arith, h .even))
+
+pub left-full : (w : ℕ) → isLeft w 0 ≡ false
+left-full w = left-not w 0 (λ h. omega (arith, h .within))
+
+pub left-zero : (room : ℕ) → isLeft 0 room ≡ false
+left-zero room = left-not 0 room (λ h. omega (arith, h .some))
+
+-- it is no header
+pub left-no-header : (w room r : ℕ) → Left w room → isHeader w r ≡ false
+left-no-header w room r h = go (isHeader w r) refl
+  where
+    go : (b : Bool) → isHeader w r ≡ b → b ≡ false
+    go false e = refl
+    go true e = let H = header-says w r e in absurd (omega (arith, H .odd, h .even))
 
 -- ---- a header that was made
 

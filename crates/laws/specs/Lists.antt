@@ -6,7 +6,7 @@ use mathlib.Core.List.{List, [], _∷_, List·Memᴰ, List·Memᴰ·head, List·
 use Prim.Native.Nat.{ℕ, zero, suc, _+_, _*_, _-_, _≤_, _<_}
 use native.Mathlib.Omega.{arith}
 use native.Mathlib.Numerals.{add-one}
-use lib.ListN.{length, getD, drop, drop-of-length-le}
+use lib.ListN.{length, getD, set, drop, drop-of-length-le}
 use lib.Seq.{drop-cons}
 use lib.Dec.{eqb}
 use borrow.Author.Tests.{eqb-true, eqb-false}
@@ -112,6 +112,20 @@ mem-has a (x ∷ xs) m = go (eqb a x) refl (mem-has a xs) (List·Memᴰ·cases-c
     go false q ih (inl e) = absurd (eqb-false a x q e)
     go false q ih (inr k) = ih k
 
+or-behind : {v x y : ℕ} {l : List ℕ} → (x ≡ v) ⊎ List·Memᴰ x l → (x ≡ v) ⊎ List·Memᴰ x (y ∷ l)
+or-behind (inl e) = inl e
+or-behind (inr k) = inr (List·Memᴰ·tail k)
+
+-- a member after a store is the number stored, or was one before
+pub mem-set : (l : List ℕ) (i v x : ℕ) → List·Memᴰ x (set l i v) → (x ≡ v) ⊎ List·Memᴰ x l
+mem-set [] i v x k = inr k
+mem-set (y ∷ l) zero v x k = or-behind (List·Memᴰ·cases-cons k)
+mem-set (y ∷ l) (suc i) v x k = go (mem-set l i v x) (List·Memᴰ·cases-cons k)
+  where
+    go : (List·Memᴰ x (set l i v) → (x ≡ v) ⊎ List·Memᴰ x l) → (x ≡ y) ⊎ List·Memᴰ x (set l i v) → (x ≡ v) ⊎ List·Memᴰ x (y ∷ l)
+    go ih (inl e) = inr (List·Memᴰ·head e)
+    go ih (inr q) = or-behind (ih q)
+
 -- ---- how many, and the first
 
 module _ (f : ℕ → Bool) (i hi : ℕ) where
@@ -148,15 +162,6 @@ count-none f lo hi h = none (block lo hi) (λ x k. let q = mem-block lo hi x k i
     none (y ∷ xs) h = rw (h y (List·Memᴰ·head refl)) (omega (arith, none xs (λ x k. h x (List·Memᴰ·tail k))))
 
 -- ---- what is added up
-
-module _ (f : ℕ → ℕ) (i hi : ℕ) where
-  pub sum-past : hi ≤ i → sum f (block i hi) ≡ 0
-  unfolding sum
-  sum-past p = rw (block-past i hi p)
-
-  pub sum-step : i < hi → sum f (block i hi) ≡ f i + sum f (block (i + 1) hi)
-  unfolding sum
-  sum-step p = rw (block-step i hi p)
 
 -- what agrees on every member adds up to the same
 pub sum-same : (f e : ℕ → ℕ) (xs : List ℕ) → ((x : ℕ) → List·Memᴰ x xs → f x ≡ e x) → sum f xs ≡ sum e xs

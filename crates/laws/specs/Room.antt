@@ -1,5 +1,4 @@
--- Laws of the room that a collection may need: more words may need more pages, and the words of k pages no more than 2k - 1. So
--- Q-3's figure never exceeds document 01's.
+-- Laws of the room that a collection may need: the words of k pages need no more than 2k - 1. So Q-3's figure never exceeds document 01's.
 use mathlib.Core.Path.{_≡_, refl}
 use mathlib.Core.Bool.{not}
 use mathlib.Core.List.{List}
@@ -36,15 +35,6 @@ pub needed-fits : (P w : ℕ) → 8 ≤ P → 9 * (w / (P + 1)) ≤ w
 needed-fits P w h =
     let q : 9 * (w / (P + 1)) ≤ (P + 1) * (w / (P + 1)) = mul-le-mul-right (w / (P + 1)) (omega arith) in
     omega (arith, whole P w)
-
-pub needed-more : (P v w : ℕ) → v ≤ w → pagesNeeded P v ≤ pagesNeeded P w
-needed-more P v w le = go (ℕ-discrete v 0)
-  where
-    go : Dec (v ≡ 0) → pagesNeeded P v ≤ pagesNeeded P w
-    go (yes e) = rw (e, needed-none) zero-le
-    go (no n) =
-        let q : v / (P + 1) ≤ w / (P + 1) = le-div-iff-mul-le {k = P + 1} {x = v / (P + 1)} {y = w} (omega arith) .1 (le-trans (whole P v) le) in
-        rw (needed-some P v (omega arith), needed-some P w (omega arith)) (omega arith)
 
 -- words that k pages have room for
 pub needed-pages : (P W k : ℕ) → W ≤ k * P → pagesNeeded P W ≤ 2 * k - 1

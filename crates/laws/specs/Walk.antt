@@ -170,11 +170,7 @@ unfolding sum
 steps-words (stops e) = omega arith
 steps-words (step e r) = omega (arith, steps-words r)
 
--- the words in objects on a page: the walk's way to its stop, and no more than P
-pub words-on : (m : Lent) (g : ℕ) → behind (m .heap) (g * m .rec .page) (objects (m .heap) (g * m .rec .page) (g * m .rec .page + m .rec .page)) ≡ g * m .rec .page + wordsOn m g
-unfolding wordsOn stop
-words-on m g = rw (← starts-are m g) (sym (steps-words (page-steps m g)))
-
+-- the words in objects on a page are no more than P
 pub words-on-page : (m : Lent) (g : ℕ) → wordsOn m g ≤ m .rec .page
 unfolding wordsOn
 words-on-page m g = omega (arith, steps-words (page-steps m g), steps-upto (page-steps m g) .1)

@@ -2,6 +2,7 @@
 ghost use mathlib.Core.Path.{_≡_};
 ghost use Prim.Native.Nat.{_<_};
 ghost use Rattle.rules.specs.Header.{headerOf, sizeOf, refsOf, isHeader};
+ghost use Rattle.rules.specs.Collection.{isLeft};
 
 // A number as wide as a place in a slice.
 pub fn wide(x: u32) -> usize
@@ -37,6 +38,20 @@ pub fn is_header(w: u32, room: usize) -> bool
         return false;
     }
     n <= room
+}
+
+// Whether an object was copied out of the place that begins with word w, where there are `room` words before
+// the page's end.
+pub fn is_left(w: u32, room: usize) -> bool
+    ensures { λ r. ⌜ r ≡ isLeft w room ⌝ }
+{
+    if w % 2 != 0 {
+        return false;
+    }
+    if w == 0 {
+        return false;
+    }
+    1 <= room
 }
 
 // The header of an object of d payload words, the first p of them references. It is wider than a word, so that it is right

@@ -3,22 +3,23 @@
 use mathlib.Core.Path.{_≡_, sym, ap, _∙_}
 use mathlib.Core.Bool.{Bool, true, false, cond}
 use mathlib.Core.List.{List, []}
-use Prim.Native.Nat.{ℕ, _-_, _≤_}
+use Prim.Native.Nat.{ℕ, _+_, _-_, _≤_}
 use native.Mathlib.Omega.{arith}
-use lib.ListN.{length, drop, replicate, length-drop}
+use lib.ListN.{length, take, drop, replicate, length-take, length-drop}
 use lib.Dec.{eqb}
 use Rattle.rules.specs.declared.Record.{Record}
 use Rattle.rules.specs.Pages.{pagesNamed, otherLabel}
 use Rattle.rules.specs.Lent.{lent}
-use Rattle.rules.specs.Collection.{Pages, State, Rooted, plainly, planOf, begun, afterHints, afterRoots, afterSweep, collection, hintPages, forwardRoots, sweepQueue, freedHeap, freedLabels}
+use Rattle.rules.specs.Collection.{Pages, State, Rooted, plainly, planOf, begun, afterHints, afterRoots, afterSweep, collection, hintPages, forwardRoots, sweepQueue, unkeptPages, keptPages, fillPages, filled, freedHeap, freedLabels}
 use Rattle.rules.specs.Collect.{acceptedCollect, collectOutcome}
 use Rattle.laws.specs.Valid.{Layout}
-use Rattle.laws.specs.Safe.{SafeHints, SafeRoots, SafeQueue, SafeRun}
+use Rattle.laws.specs.Safe.{SafeHints, SafeRoots, SafeQueue, SafeFills, SafeRun}
 use Rattle.hints.specs.declared.Shape.{Shape}
 use Rattle.hints.specs.Code.{plan, hintedOf}
 use Rattle.hints.specs.Queue.{Queued, queue-length}
 use Rattle.copies.specs.declared.Gather.{Gather}
 use Rattle.copies.specs.Code.{pagesOf, stateOf, rootedOf, Tied}
+use Rattle.fillers.specs.Code.{FilledAs}
 use Rattle.phases.specs.Code.{beginOf, shapeOf, answerOf}
 
 -- the other label is 1 or 2
@@ -98,6 +99,7 @@ roots-done {r} {h} {l} {k} {sh = sh} B H e t q = record { rooted = e ∙ rw (pla
 pub record Swept (r : Record) (h l k roots hints h3 l3 k3 : List ℕ) (g3 : Gather) : Type 0 where
   pub state : stateOf h3 l3 k3 g3 ≡ afterSweep (planOf (lent h l k r) plainly) (lent h l k r) roots hints
   pub queued : Queued l3 k3 (g3 .tail)
+  pub links : length k3 ≡ length k
 
 module _ {r : Record} {h l k roots hints h2 l2 k2 roots2 : List ℕ} {sh : Shape} {g2 : Gather} (B : Before r h l k roots hints sh) (R : RootsDone r h l k roots hints sh h2 l2 k2 roots2 g2) where
   pages-are : sh .pages ≡ r .pages
@@ -109,12 +111,22 @@ module _ {r : Record} {h l k roots hints h2 l2 k2 roots2 : List ℕ} {sh : Shape
   pub queue-is-safe : (length k2 ≡ sh .pages) × (SafeQueue (plan sh) (sh .pages) 0 (stateOf h2 l2 k2 g2) × Tied sh l2 k2 g2)
   queue-is-safe = (R .links ∙ B .layout .links ∙ sym pages-are, (rw (plan-is r h l k sh (B .shape), pages-are, state-is) (B .safe .onQueue), R .tied))
 
-  pub swept-is : {h3 l3 k3 : List ℕ} {g3 : Gather} → stateOf h3 l3 k3 g3 ≡ sweepQueue (plan sh) (sh .pages) 0 (stateOf h2 l2 k2 g2) → Tied sh l3 k3 g3
+  pub swept-is : {h3 l3 k3 : List ℕ} {g3 : Gather} → stateOf h3 l3 k3 g3 ≡ sweepQueue (plan sh) (sh .pages) 0 (stateOf h2 l2 k2 g2) → Tied sh l3 k3 g3 → length k3 ≡ length k2
       → Swept r h l k roots hints h3 l3 k3 g3
   unfolding afterSweep
-  swept-is e t = record { state = e ∙ rw (plan-is r h l k sh (B .shape), pages-are, state-is); queued = t .queued }
+  swept-is e t q = record { state = e ∙ rw (plan-is r h l k sh (B .shape), pages-are, state-is); queued = t .queued; links = q ∙ R .links }
 
 -- ---- after the sweep
+
+-- of a queue of t pages: how many are kept at its end, and how many come before them, but for the first n
+module _ (p : Pages) (t : ℕ) (len : length (p .queue) ≡ t) where
+  kept-count : p .kept ≤ t → length (keptPages p) ≡ p .kept
+  unfolding keptPages
+  kept-count few = rw (length-drop, len) (omega arith)
+
+  taken-count : (n : ℕ) → length (drop n (unkeptPages p)) ≡ t - p .kept - n
+  unfolding unkeptPages
+  taken-count n = rw (length-drop, length-take, len) (omega arith)
 
 module _ {r : Record} {h l k roots hints l1 k1 h2 l2 k2 roots2 h3 l3 k3 : List ℕ} {sh : Shape} {n : ℕ} {g1 g2 g3 : Gather} (B : Before r h l k roots hints sh) (H : Hinted r h l k hints sh l1 k1 n g1)
     (R : RootsDone r h l k roots hints sh h2 l2 k2 roots2 g2) (W : Swept r h l k roots hints h3 l3 k3 g3) where
@@ -124,15 +136,41 @@ module _ {r : Record} {h l k roots hints l1 k1 h2 l2 k2 roots2 h3 l3 k3 : List �
   all-many : length (afterSweep (planOf (lent h l k r) plainly) (lent h l k r) roots hints .pages .queue) ≡ g3 .tail
   all-many = ap (λ (s : State). length (s .pages .queue)) (sym (W .state)) ∙ queue-length k3 (g3 .tail) (W .queued .tail)
 
-  pub tails : n ≤ g3 .tail
-  tails = omega (arith, hinted-many, all-many, B .safe .hinted)
+  kept-many : afterSweep (planOf (lent h l k r) plainly) (lent h l k r) roots hints .pages .kept ≡ g3 .kept
+  kept-many = ap (λ (s : State). s .pages .kept) (sym (W .state))
+
+  pub tails : n + g3 .kept ≤ g3 .tail
+  tails = omega (arith, hinted-many, all-many, kept-many, B .safe .hinted)
+
+  -- the pages kept, as the code has them
+  kept-are : keptPages (afterSweep (planOf (lent h l k r) plainly) (lent h l k r) roots hints .pages) ≡ drop (g3 .tail - g3 .kept) (take (g3 .tail) k3)
+  unfolding keptPages
+  kept-are = ap (λ (s : State). drop (length (s .pages .queue) - s .pages .kept) (s .pages .queue)) (sym (W .state)) ∙ rw (queue-length k3 (g3 .tail) (W .queued .tail))
+
+  heap-is : afterSweep (planOf (lent h l k r) plainly) (lent h l k r) roots hints .heap ≡ h3
+  heap-is = ap (λ (s : State). s .heap) (sym (W .state))
+
+  pub fills-are-safe : ((sh .page ≤ 1024) × (g3 .kept ≤ g3 .tail) × (g3 .tail ≤ length k3) × (length k3 ≤ 4096)) × SafeFills (sh .page) (drop (g3 .tail - g3 .kept) (take (g3 .tail) k3)) h3
+  unfolding planOf
+  fills-are-safe =
+      let few : length k3 ≤ 4096 = omega (arith, W .links, B .layout .links, B .layout .pages-high) in
+      ((rw (B .shape) (B .layout .page-high), omega (arith, tails), W .queued .tail, few), rw (B .shape, ← kept-are, ← heap-is) (B .safe .onKept))
+
+  -- ---- after the filling, which leaves the heap h4 and f fillers
+
+  pub filled-is : {h4 : List ℕ} {f : ℕ} → FilledAs (fillPages (sh .page) (drop (g3 .tail - g3 .kept) (take (g3 .tail) k3)) (record { heap = h3; places = [] })) h4 f
+      → FilledAs (filled (planOf (lent h l k r) plainly) (afterSweep (planOf (lent h l k r) plainly) (lent h l k r) roots hints)) h4 f
+  unfolding filled planOf
+  filled-is A = rw (kept-are, heap-is) (rw (B .shape) at A)
 
   -- the whole, once pages are freed and links cleared
 
-  pub run-is : {h4 l4 k4 : List ℕ} → h4 ≡ freedHeap (sh .page) (sh .old) l3 h3 → l4 ≡ freedLabels (sh .old) l3 → k4 ≡ replicate (length k) 0
-      → collectOutcome (answerOf r n g3) h4 l4 k4 roots2 ≡ acceptedCollect (collection plainly (lent h l k r) roots hints)
+  pub run-is : {h4 h5 l5 k5 : List ℕ} {f : ℕ} → FilledAs (filled (planOf (lent h l k r) plainly) (afterSweep (planOf (lent h l k r) plainly) (lent h l k r) roots hints)) h4 f
+      → h5 ≡ freedHeap (sh .page) (sh .old) l3 h4 → l5 ≡ freedLabels (sh .old) l3 → k5 ≡ replicate (length k) 0
+      → collectOutcome (answerOf r n g3 f) h5 l5 k5 roots2 ≡ acceptedCollect (collection plainly (lent h l k r) roots hints)
   unfolding acceptedCollect collection planOf
-  run-is a b d =
-      let t : length (drop (length (afterHints (planOf (lent h l k r) plainly) (lent h l k r) hints .queue)) (afterSweep (planOf (lent h l k r) plainly) (lent h l k r) roots hints .pages .queue)) ≡ g3 .tail - n
-      = rw (length-drop, hinted-many, all-many) in
-      rw (t, hinted-many, a, b, d, B .shape, ← (W .state), ← (R .rooted))
+  run-is A a b d =
+      let s : State = afterSweep (planOf (lent h l k r) plainly) (lent h l k r) roots hints in
+      let t : length (drop n (unkeptPages (s .pages))) ≡ g3 .tail - g3 .kept - n = taken-count (s .pages) _ all-many n ∙ ap (λ (x : ℕ). g3 .tail - x - n) kept-many in
+      let q : length (keptPages (s .pages)) ≡ g3 .kept = kept-count (s .pages) _ all-many (omega (arith, tails, kept-many)) ∙ kept-many in
+      rw (hinted-many, t, q, ← (A .places), a, A .heap, b, d, B .shape, ← (W .state), ← (R .rooted))

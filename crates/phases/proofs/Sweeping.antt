@@ -11,14 +11,15 @@ use lib.Seq.{getD-take}
 use borrow.Author.Tests.{lt-ltb, le-ltb}
 use Rattle.rules.specs.Ranges.{at}
 use Rattle.rules.specs.Header.{sizeOf, refsOf, isHeader}
-use Rattle.rules.specs.Collection.{Plan, State, forward, sweepReference, sweepReferences, sweepPage, sweepQueue}
-use Rattle.laws.specs.Headers.{Header, header-says, header-full}
-use Rattle.laws.specs.Safe.{SafeForward, SafeReferences, SafePage, SafeQueue}
+use Rattle.rules.specs.Collection.{Plan, State, forward, sweepReference, sweepReferences, isLeft, sweepPage, sweepQueue}
+use Rattle.laws.specs.Headers.{Header, header-says, header-full, left-full}
+use Rattle.laws.specs.Safe.{SafeForward, SafeReferences, SafeStep, SafePage, SafeQueue}
 use Rattle.hints.specs.declared.Shape.{Shape}
 use Rattle.hints.specs.Code.{plan}
 use Rattle.hints.specs.Queue.{Queued, queue-length}
 use Rattle.copies.specs.declared.Gather.{Gather}
 use Rattle.copies.specs.Code.{stateOf, forwardedOf}
+use Rattle.fillers.specs.Places.{LeftBy, Turns, turns-none, turns-on}
 
 -- ---- the references of an object, from address w up to `stop`
 
@@ -63,50 +64,73 @@ module _ (k : Plan) (x r : ℕ) (s : State) (stop : ℕ) (e : stop ≡ x + 1 + r
   pub counted-safe : SafeReferences k r (suc x) s → SafeReferences k (stop - (x + 1)) (x + 1) s
   counted-safe p = rw (count, add-one x) p
 
--- ---- the objects of a page, from address x to the page's end e, with fuel f
+-- ---- the objects of a page, from address x to the page's end e
 
 pub record Objects (k : Plan) (e : ℕ) (goal s : State) (x : ℕ) : Type 0 where
   pub f : ℕ
   pub room : ℕ
-  pub enough : room ≤ f
-  pub place : room ≡ e - x
+  pub turns : Turns e x f room
   pub same : sweepPage k f x room s ≡ goal
   pub safe : SafePage k f x room s
 
-module _ (k : Plan) (e : ℕ) (goal s : State) (x : ℕ) where
-  stop-go : (f r : ℕ) → isHeader (at (s .heap) x) r ≡ false → sweepPage k f x r s ≡ s
+module _ (k : Plan) (e : ℕ) (goal s : State) (x : ℕ) (O : Objects k e goal s x) where
+  stop-go : (f r : ℕ) → isHeader (at (s .heap) x) r ≡ false → isLeft (at (s .heap) x) r ≡ false → sweepPage k f x r s ≡ s
   unfolding sweepPage
-  stop-go zero r n = refl
-  stop-go (suc f) r n = rw n
+  stop-go zero r a b = refl
+  stop-go (suc f) r a b = rw (a, b)
 
-  pub objects-stop : Objects k e goal s x → isHeader (at (s .heap) x) (e - x) ≡ false → s ≡ goal
-  objects-stop O n = sym (stop-go (O .f) (O .room) (rw (O .place) n)) ∙ O .same
+  pub objects-stop : isHeader (at (s .heap) x) (e - x) ≡ false → isLeft (at (s .heap) x) (e - x) ≡ false → s ≡ goal
+  objects-stop a b = sym (stop-go (O .f) (O .room) (rw (O .turns .place) a) (rw (O .turns .place) b)) ∙ O .same
 
-  pub objects-past : Objects k e goal s x → e ≤ x → s ≡ goal
-  objects-past O p = objects-stop O (let z : e - x ≡ 0 = omega arith in rw z (header-full (at (s .heap) x)))
+  pub objects-past : e ≤ x → s ≡ goal
+  objects-past p = let z : e - x ≡ 0 = omega arith in objects-stop (rw z (header-full (at (s .heap) x))) (rw z (left-full (at (s .heap) x)))
 
-  module _ (p : x < e) (y : isHeader (at (s .heap) x) (e - x) ≡ true) where
-    safe-go : (f r : ℕ) → r ≤ f → r ≡ e - x → SafePage k f x r s → SafeReferences k (refsOf (at (s .heap) x)) (suc x) s
+  module _ (p : x < e) where
+    -- ---- a header stands at x
+
+    module _ (y : isHeader (at (s .heap) x) (e - x) ≡ true) where
+      safe-go : (f r : ℕ) → Turns e x f r → SafePage k f x r s → SafeReferences k (refsOf (at (s .heap) x)) (suc x) s
+      unfolding SafePage
+      safe-go zero r T S = absurd (turns-none T p)
+      safe-go (suc f) r T S = S .0 (rw (T .place) y) .0
+
+      pub objects-safe : SafeReferences k (refsOf (at (s .heap) x)) (suc x) s
+      objects-safe = safe-go (O .f) (O .room) (O .turns) (O .safe)
+
+      turn-go : (f r : ℕ) → Turns e x f r → sweepPage k f x r s ≡ goal → SafePage k f x r s
+          → Objects k e goal (sweepReferences k (refsOf (at (s .heap) x)) (suc x) s) (x + sizeOf (at (s .heap) x))
+      unfolding SafePage sweepPage
+      turn-go zero r T g S = absurd (turns-none T p)
+      turn-go (suc f) r T g S =
+          let y′ : isHeader (at (s .heap) x) r ≡ true = rw (T .place) y in
+          let H : Header (at (s .heap) x) r = header-says _ _ y′ in
+          record { f = f; room = r - sizeOf (at (s .heap) x); turns = turns-on T (sizeOf (at (s .heap) x)) (omega (arith, H .shape)); same = rw y′ at g; safe = S .0 y′ .1 }
+
+      -- a turn: n is the object's size, t what its sweep leaves
+      pub objects-turn : (t : State) (n : ℕ) → t ≡ sweepReferences k (refsOf (at (s .heap) x)) (suc x) s → n ≡ sizeOf (at (s .heap) x) → Objects k e goal t (x + n)
+      objects-turn t n q m = rw (q, m) (turn-go (O .f) (O .room) (O .turns) (O .same) (O .safe))
+
+    -- ---- an object was copied out of the place at x
+
+    left-go : (f r : ℕ) → Turns e x f r → SafePage k f x r s → isLeft (at (s .heap) x) (e - x) ≡ true → SafeStep (s .heap) (at (s .heap) x) (e - x)
     unfolding SafePage
-    safe-go zero r n q S = absurd (omega arith)
-    safe-go (suc f) r n q S = S (rw q y) .0
+    left-go zero r T S l = absurd (turns-none T p)
+    left-go (suc f) r T S l = rw (T .place) at (S .1 (rw (T .place) l) .0)
 
-    pub objects-safe : Objects k e goal s x → SafeReferences k (refsOf (at (s .heap) x)) (suc x) s
-    objects-safe O = safe-go (O .f) (O .room) (O .enough) (O .place) (O .safe)
+    pub objects-left : isLeft (at (s .heap) x) (e - x) ≡ true → SafeStep (s .heap) (at (s .heap) x) (e - x)
+    objects-left = left-go (O .f) (O .room) (O .turns) (O .safe)
 
-    turn-go : (f r : ℕ) → r ≤ f → r ≡ e - x → sweepPage k f x r s ≡ goal → SafePage k f x r s → 0 < sizeOf (at (s .heap) x)
-        → Objects k e goal (sweepReferences k (refsOf (at (s .heap) x)) (suc x) s) (x + sizeOf (at (s .heap) x))
+    over-go : (f r n : ℕ) → Turns e x f r → sweepPage k f x r s ≡ goal → SafePage k f x r s → isHeader (at (s .heap) x) (e - x) ≡ false → LeftBy (s .heap) (at (s .heap) x) (e - x) n → Objects k e goal s (x + n)
     unfolding SafePage sweepPage
-    turn-go zero r n q g S z = absurd (omega arith)
-    turn-go (suc f) r n q g S z =
-        let y′ : isHeader (at (s .heap) x) r ≡ true = rw q y in
-        record { f = f; room = r - sizeOf (at (s .heap) x); enough = omega arith; place = omega arith; same = rw y′ at g; safe = S y′ .1 }
+    over-go zero r n T g S y L = absurd (turns-none T p)
+    over-go (suc f) r n T g S y L =
+        let y′ : isHeader (at (s .heap) x) r ≡ false = rw (T .place) y in
+        let l : isLeft (at (s .heap) x) r ≡ true = rw (T .place) (L .left) in
+        record { f = f; room = r - n; turns = turns-on T n (L .some); same = rw (L .size) (rw (y′, l) at g); safe = rw (L .size) (S .1 l .1) }
 
-    -- a turn: n is the object's size, t what its sweep leaves
-    pub objects-turn : (t : State) (n : ℕ) → Objects k e goal s x → t ≡ sweepReferences k (refsOf (at (s .heap) x)) (suc x) s → n ≡ sizeOf (at (s .heap) x) → Objects k e goal t (x + n)
-    objects-turn t n O q m =
-        let H : Header (at (s .heap) x) (e - x) = header-says _ _ y in
-        rw (q, m) (turn-go (O .f) (O .room) (O .enough) (O .place) (O .same) (O .safe) (omega (arith, H .shape)))
+    -- a turn: it is stepped over
+    pub objects-over : (n : ℕ) → isHeader (at (s .heap) x) (e - x) ≡ false → LeftBy (s .heap) (at (s .heap) x) (e - x) n → Objects k e goal s (x + n)
+    objects-over n = over-go (O .f) (O .room) n (O .turns) (O .same) (O .safe)
 
 -- ---- the pages of the queue, from its head-th on, with fuel f
 

@@ -9,18 +9,20 @@ use Rattle.copies.specs.declared.Gather.{Gather}
 
 -- after the hints, which named n pages, and before the first copy
 abbrev pub beginOf : Record → ℕ → Gather
-beginOf r n = record { tail = n; cursor = 1; copy = 0; fill = r .page; objects = 0; words = 0 }
+beginOf r n = record { tail = n; cursor = 1; copy = 0; fill = r .page; kept = 0; objects = 0; words = 0 }
 
 abbrev pub shapeOf : Record → Shape
 shapeOf r = record { page = r .page; pages = r .pages; old = r .label; new = otherLabel (r .label) }
 
--- the answer after the last step, where n pages were hinted
-abbrev pub answerOf : Record → ℕ → Gather → Collected
-answerOf r n g = record {
+-- the answer after the last step, where n pages were hinted and there are f fillers
+abbrev pub answerOf : Record → ℕ → Gather → ℕ → Collected
+answerOf r n g f = record {
   refusal = 0;
   hinted = n;
-  taken = g .tail - n;
+  taken = g .tail - g .kept - n;
   objects = g .objects;
   words = g .words;
+  kept = g .kept;
+  fillers = f;
   rec = opening (relabelled r (otherLabel (r .label))) (g .copy) (g .fill);
 }

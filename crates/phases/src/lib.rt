@@ -1,4 +1,4 @@
-// The four steps of a collection: hints and roots, from crates of their own, the queue, freeing. These are
+// The four steps of a collection: hints, roots and fillers, from crates of their own, the queue and freeing. These are
 // no calls for users. What `run` and its helpers do is safe only where the tests of collect have passed:
 // their `requires` say so, by the predicates of `laws` (Safe.antt) that follow the definitions step by
 // step. Under it each equals its definition in `rules` (Collection.antt).
@@ -12,7 +12,7 @@ use numbers::pages;
 use rules::Collected;
 use rules::Record;
 ghost use mathlib.Core.Path.{_≡_};
-ghost use Prim.Native.Nat.{_≤_};
+ghost use Prim.Native.Nat.{_+_, _≤_};
 ghost use Rattle.rules.specs.Lent.{lent};
 ghost use Rattle.rules.specs.Collection.{plainly, planOf, collection};
 ghost use Rattle.rules.specs.Collect.{collectOutcome, acceptedCollect};
@@ -41,24 +41,28 @@ pub fn begin(r: Record, hinted: u32) -> Gather
         cursor: 1,
         copy: 0,
         fill: r.page,
+        kept: 0,
         objects: 0,
         words: 0,
     }
 }
 
-// The answer after the last step, where `hinted` pages were hinted. The queue's other pages were taken.
-pub fn answer(r: Record, hinted: u32, g: Gather) -> Collected
-    requires { ⌜ hinted ≤ g .tail ⌝ }
-    ensures { λ c. ⌜ c ≡ answerOf r hinted g ⌝ }
+// The answer after the last step, where `hinted` pages were hinted and there are `fillers` fillers. The queue's
+// other pages were taken or kept.
+pub fn answer(r: Record, hinted: u32, g: Gather, fillers: u32) -> Collected
+    requires { ⌜ hinted + g .kept ≤ g .tail ⌝ }
+    ensures { λ c. ⌜ c ≡ answerOf r hinted g fillers ⌝ }
 {
     let relabelled = r.relabelled(pages::other_label(r.label));
     let rec = relabelled.opening(g.copy, g.fill);
     Collected {
         refusal: 0,
         hinted,
-        taken: g.tail - hinted,
+        taken: g.tail - g.kept - hinted,
         objects: g.objects,
         words: g.words,
+        kept: g.kept,
+        fillers,
         rec,
     }
 }
@@ -81,7 +85,8 @@ pub fn run(
     let begun = begin(r, hinted);
     let rooted = copies::forward_roots(heap, labels, links, k, begun, roots);
     let swept = sweep::sweep_queue(heap, labels, links, k, rooted);
+    let filled = fillers::fill_pages(heap, links, k, swept);
     free::free_pages(heap, labels, k);
     tables::clear16(links);
-    answer(r, hinted, swept)
+    answer(r, hinted, swept, filled)
 }

@@ -1,5 +1,5 @@
 // Step 3: each page in the queue in order, each object on it in walk order, each reference in order is
-// forwarded. Hinted pages stand first in the queue, and pages taken meanwhile join it.
+// forwarded. Hinted pages stand first in the queue, and pages taken or kept meanwhile join it.
 use copies::Gather;
 use hints::Shape;
 use numbers::header;
@@ -40,7 +40,8 @@ pub fn sweep_references(
 }
 
 // The objects of the page that begins at address `base`. The walk goes over the heap as it is by then,
-// so that copies put on this page meanwhile are met too.
+// so that copies put on this page meanwhile are met too. On a page kept for want of room it steps over the
+// places of objects that were copied, by the length at the copy.
 pub fn sweep_page(
     heap: &mut [u32],
     labels: &mut [u16],
@@ -60,22 +61,20 @@ pub fn sweep_page(
     let mut x = base;
     while x < end {
         let word = heap[x];
-        if !header::is_header(word, end - x) {
-            return g;
+        if header::is_header(word, end - x) {
+            let first = x + 1;
+            let stop = first + header::refs_of(word);
+            g = sweep_references(heap, labels, links, k, g, first, stop);
+            x += header::size_of(word);
+        } else {
+            let size = fillers::left_size(heap, word, end - x);
+            if size == 0 {
+                return g;
+            }
+            x += size;
         }
-        let first = x + 1;
-        let stop = first + header::refs_of(word);
-        g = sweep_references(heap, labels, links, k, g, first, stop);
-        x += header::size_of(word);
     }
     g
-}
-
-// A link as wide as a place in a slice.
-pub fn wide(x: u16) -> usize
-    ensures { λ r. ⌜ r ≡ x ⌝ }
-{
-    x as usize
 }
 
 // Each page in the queue, in order of joining.
@@ -95,7 +94,7 @@ pub fn sweep_queue(
     let mut g = start;
     let mut head: usize = 0;
     while head < g.tail as usize {
-        let page = wide(links[head]);
+        let page = fillers::wide(links[head]);
         g = sweep_page(heap, labels, links, k, g, page * k.page as usize);
         head += 1;
     }

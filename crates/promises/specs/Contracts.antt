@@ -81,7 +81,7 @@ stores-once m a i v = same-left (store m a i v)
 
 abbrev outcome-collected : CollectOutcome → LeftCollected
 outcome-collected o = record {
-  answer = record { refusal = o .refusal; hinted = o .hinted; taken = o .taken; objects = o .objects; words = o .words; rec = o .lent .rec };
+  answer = record { refusal = o .refusal; hinted = o .hinted; taken = o .taken; objects = o .objects; words = o .words; kept = o .kept; fillers = o .fillers; rec = o .lent .rec };
   heap = o .lent .heap;
   labels = o .lent .labels;
   links = o .lent .links;

@@ -15,7 +15,7 @@ use Rattle.rules.specs.Pages.{pageNamed, pageNamedBefore, pagesOfHint, pagesNam
 use Rattle.rules.specs.Lent.{Lent}
 use Rattle.rules.specs.Sound.{InUse, IsObject, Sound, refs, payload}
 use Rattle.rules.specs.Collect.{collect}
-use Rattle.rules.specs.Demands.{FromStart, Hinted, onHinted}
+use Rattle.rules.specs.Demands.{FromStart, Hinted, staying}
 use Rattle.laws.specs.Pages.{named-is, before-is}
 use Rattle.laws.specs.Valid.{valid-layout}
 use Rattle.laws.specs.Objects.{page-pos, object-page}
@@ -124,6 +124,7 @@ pub held-stays : (m : Lent) (roots hints : List ℕ) (x : ℕ) → FromStart m �
 held-stays m roots hints x f e ob h =
     let H = held-hinted m hints x (demand3 .sound m f) ob h in
     let (Pairs, F) = demand3 .faithful m roots hints f e in
-    let (y, p) = F .reached x (onHinted ob H) in
+    let D = F .paired in
+    let (y, p) = D .reached x (staying ob (inl H)) in
     let q = subst (λ (z : ℕ). Pairs x z) (F .stays x y p H) p in
-    record { object = F .object x x q; size = F .sizes x x q; count = F .counts x x q; dataWords = λ i a b. F .dataWords x x i q a b }
+    record { object = D .object x x q; size = D .sizes x x q; count = D .counts x x q; dataWords = λ i a b. D .dataWords x x i q a b }

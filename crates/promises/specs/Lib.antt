@@ -1,5 +1,8 @@
 pub mod Demand1
+pub mod Completes
 pub mod Demand3
+pub mod Unkept
+pub mod Rejects
 pub mod Hinted
 pub mod Landed
 pub mod Room

@@ -47,7 +47,7 @@ held-sound (collected m roots hints x h c) =
 pub record Kept (m : Lent) (roots hints : List ℕ) (x : LeftCollected) : Type 1 where
   pub finds : FindsPages m roots hints (collection plainly m roots hints .taken)
   pub counted : x .answer .taken ≡ length (collection plainly m roots hints .taken)
-  pub pairs : (Pairs : ℕ → ℕ → Type 0) × Faithful m roots hints (collectOutcome (x .answer) (x .heap) (x .labels) (x .links) (x .roots)) Pairs
+  pub pairs : (Pairs : ℕ → ℕ → Type 0) × Faithful m roots hints (collectOutcome (x .answer) (x .heap) (x .labels) (x .links) (x .roots)) (collection plainly m roots hints) Pairs
 
 pub collected-kept : (m : Lent) (roots hints : List ℕ) (x : LeftCollected) → Collects m roots hints x → x .answer .refusal ≡ 0 → Kept m roots hints x
 unfolding acceptedCollect
@@ -57,5 +57,5 @@ collected-kept m roots hints x c e =
     record {
       finds = collect-finds m roots hints z;
       counted = ap (λ (o : CollectOutcome). o .taken) (c ∙ collect-accepts m roots hints z);
-      pairs = (Pairs, subst (λ (o : CollectOutcome). Faithful m roots hints o Pairs) (sym c) F);
+      pairs = (Pairs, subst (λ (o : CollectOutcome). Faithful m roots hints o (collection plainly m roots hints) Pairs) (sym c) F);
     }

@@ -5,7 +5,7 @@
 --   3 collect first: n words don't fit in the open      5 index: index ≥ d
 --     page, and N < 3k + 2                              6 bad reference: a value for a reference, neither 0 nor an
 --                                                         object start
--- and for collect (Collect.antt) 7 unsound and 8 no room. Each definition below makes its checks in this order. The value of a
+-- and for collect (Collect.antt) 7 unsound; 8, no room, went with Q-6. Each definition below makes its checks in this order. The value of a
 -- refusal is 0, but for 10: there it is the start of the object that the address is inside.
 use mathlib.Core.Bool.{Bool, cond, _&&_, _||_}
 use mathlib.Core.List.{List, _∷_}

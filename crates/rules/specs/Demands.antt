@@ -5,14 +5,14 @@ use mathlib.Core.Path.{_≡_}
 use mathlib.Core.Logic.{_≢_, _⊎_}
 use mathlib.Core.List.{List, [], _∷_, List·Memᴰ}
 use Prim.Native.Nat.{ℕ, _+_, _/_, _≤_, _<_}
-use lib.ListN.{length}
+use lib.ListN.{length, take}
 use Rattle.rules.specs.Ranges.{at}
 use Rattle.rules.specs.Header.{sizeOf}
 use Rattle.rules.specs.Pages.{pagesNamed}
 use Rattle.rules.specs.Lent.{Lent}
 use Rattle.rules.specs.Sound.{InUse, IsObject, Sound, refs, payload}
 use Rattle.rules.specs.Calls.{Outcome, start, allocate, lookUp, load, store}
-use Rattle.rules.specs.Collection.{plainly, collection}
+use Rattle.rules.specs.Collection.{plainly, Collection, collection}
 use Rattle.rules.specs.Collect.{CollectOutcome, collect, neededFor}
 
 -- ---- demand 1: "Bad calls get a refusal number from the table; the value is then 0, and record and memory are as before."
@@ -33,7 +33,7 @@ pub record SameAt (m : Lent) (a : ℕ) (o : Outcome) : Type 0 where
   pub value : o .refusal ≢ 10 → o .value ≡ 0
   pub inside : o .refusal ≡ 10 → LiesInside m a (o .value)
 
--- "for collect, four zeros"; "every .. root .. stays the same"
+-- "for collect, four zeros", by Q-6 six; "every .. root .. stays the same"
 pub record SameCollected (m : Lent) (cells : List ℕ) (o : CollectOutcome) : Type 0 where
   pub lent : o .lent ≡ m
   pub roots : o .roots ≡ cells
@@ -41,6 +41,8 @@ pub record SameCollected (m : Lent) (cells : List ℕ) (o : CollectOutcome) : Ty
   pub taken : o .taken ≡ 0
   pub objects : o .objects ≡ 0
   pub words : o .words ≡ 0
+  pub kept : o .kept ≡ 0
+  pub fillers : o .fillers ≡ 0
 
 pub record Demand1 : Type 0 where
   pub starts : (m : Lent) (P T : ℕ) → start m P T .refusal ≢ 0 → Same m (start m P T)
@@ -90,22 +92,26 @@ pub record Hinted (m : Lent) (hints : List ℕ) (g : ℕ) : Type 0 where
   pub inUse : InUse m g
   pub named : List·Memᴰ g (pagesNamed (m .rec .page) 1 (m .rec .pages) hints)
 
--- "those that were on hinted pages or could be reached from them or the root cells"
-pub data Reached (m : Lent) (roots hints : List ℕ) : ℕ → Type 0 where
-  onHinted : {x : ℕ} → IsObject m x → Hinted m hints (x / m .rec .page) → Reached m roots hints x
-  byRoot : {x : ℕ} → IsObject m x → List·Memᴰ x roots → Reached m roots hints x
-  byReference : {x : ℕ} (z i : ℕ) → Reached m roots hints z → i < refs m z → x ≡ payload m z i → IsObject m x → Reached m roots hints x
+abbrev pub OnHinted : Lent → List ℕ → ℕ → Type 0
+OnHinted m hints x = Hinted m hints (x / m .rec .page)
+
+-- "those that were on hinted pages or could be reached from them or the root cells": `Stay` says which objects are like those on hinted
+-- pages, in that they stay where they are
+pub data Reached (m : Lent) (roots : List ℕ) (Stay : ℕ → Type 0) : ℕ → Type 0 where
+  staying : {x : ℕ} → IsObject m x → Stay x → Reached m roots Stay x
+  byRoot : {x : ℕ} → IsObject m x → List·Memᴰ x roots → Reached m roots Stay x
+  byReference : {x : ℕ} (z i : ℕ) → Reached m roots Stay z → i < refs m z → x ≡ payload m z i → IsObject m x → Reached m roots Stay x
 
 -- u stands now for v: nil for nil, else what v is paired with
 abbrev pub Becomes : (ℕ → ℕ → Type 0) → ℕ → ℕ → Type 0
 Becomes Pairs v u = ((v ≡ 0) × (u ≡ 0)) ⊎ Pairs v u
 
--- m, roots and hints before; o after; `Pairs x y` says that the object at x before is the one at y after
-pub record Faithful (m : Lent) (roots hints : List ℕ) (o : CollectOutcome) (Pairs : ℕ → ℕ → Type 0) : Type 0 where
+-- m and roots before; o after; `Pairs x y` says that the object at x before is the one at y after
+pub record Paired (m : Lent) (roots : List ℕ) (Stay : ℕ → Type 0) (o : CollectOutcome) (Pairs : ℕ → ℕ → Type 0) : Type 0 where
   -- "The objects afterwards pair one to one with those that were on hinted pages or could be reached from them or the
   -- root cells": each such object is paired, and no other; with an object afterwards; once, from either side
-  pub reached : (x : ℕ) → Reached m roots hints x → (y : ℕ) × Pairs x y
-  pub only : (x y : ℕ) → Pairs x y → Reached m roots hints x
+  pub reached : (x : ℕ) → Reached m roots Stay x → (y : ℕ) × Pairs x y
+  pub only : (x y : ℕ) → Pairs x y → Reached m roots Stay x
   pub object : (x y : ℕ) → Pairs x y → IsObject (o .lent) y
   pub once : (x y z : ℕ) → Pairs x y → Pairs x z → y ≡ z
   pub back : (x y z : ℕ) → Pairs x z → Pairs y z → x ≡ y
@@ -116,26 +122,101 @@ pub record Faithful (m : Lent) (roots hints : List ℕ) (o : CollectOutcome) (Pa
   pub references : (x y i : ℕ) → Pairs x y → i < refs m x → Becomes Pairs (payload m x i) (payload (o .lent) y i)
   pub rootCells : length (o .roots) ≡ length roots
   pub rootsAgree : (j : ℕ) → j < length roots → Becomes Pairs (at roots j) (at (o .roots) j)
+
+-- page g "holds a copy": an object afterwards that stood elsewhere before
+pub record HoldsCopy (m : Lent) (Pairs : ℕ → ℕ → Type 0) (g : ℕ) : Type 0 where
+  pub from : ℕ
+  pub to : ℕ
+  pub pair : Pairs from to
+  pub there : to / m .rec .page ≡ g
+  pub copied : to ≢ from
+
+-- demand 3 of one collection as it stood before Q-6, which Q-7 and Q-13 ask for: no page is kept for want of room
+pub record FaithfulUnkept (m : Lent) (roots hints : List ℕ) (o : CollectOutcome) (Pairs : ℕ → ℕ → Type 0) : Type 0 where
+  pub paired : Paired m roots (OnHinted m hints) o Pairs
   -- "nothing else remains"
   pub nothing : (y : ℕ) → IsObject (o .lent) y → (x : ℕ) × Pairs x y
   -- "objects on hinted pages keep their addresses"
-  pub stays : (x y : ℕ) → Pairs x y → Hinted m hints (x / m .rec .page) → y ≡ x
-  -- "A page then in use was hinted or holds a copy": of an object from a page that was not hinted
-  pub pages : (g : ℕ) → InUse (o .lent) g
-      → Hinted m hints g ⊎ ((x : ℕ) × (y : ℕ) × Pairs x y × (y / m .rec .page ≡ g) × (Hinted m hints (x / m .rec .page) → ⊥))
+  pub stays : (x y : ℕ) → Pairs x y → OnHinted m hints x → y ≡ x
+  -- "A page then in use was hinted or holds a copy"
+  pub pages : (g : ℕ) → InUse (o .lent) g → Hinted m hints g ⊎ HoldsCopy m Pairs g
 
--- "Each accepted collection finds a free page whenever it needs one": those that it takes, in order, were free, in 1 to
--- T - 1, and each is taken once. Q-3: there are never more than the figure of refusal 8
+-- ---- demand 3: what Q-6 allows, "kept pages, with what stayed on them and whatever that reaches, and the fillers"
+
+-- an object on a page of the list stayed there
+pub record StayedOn (m : Lent) (kept : List ℕ) (Pairs : ℕ → ℕ → Type 0) (x : ℕ) : Type 0 where
+  pub page : List·Memᴰ (x / m .rec .page) kept
+  pub stayed : Pairs x x
+
+abbrev pub OnHintedOrKept : Lent → List ℕ → List ℕ → (ℕ → ℕ → Type 0) → ℕ → Type 0
+OnHintedOrKept m hints kept Pairs x = OnHinted m hints x ⊎ StayedOn m kept Pairs x
+
+-- nothing is twice in the list
+abbrev pub Once : List ℕ → Type 0
+Once l = (i j : ℕ) → i < length l → j < length l → at l i ≡ at l j → i ≡ j
+
+-- the pages c .kept, in order of joining the queue
+pub record Keeps (m : Lent) (roots hints : List ℕ) (o : CollectOutcome) (c : Collection) (Pairs : ℕ → ℕ → Type 0) : Type 0 where
+  -- each was in use, no hint named it, and it is in use
+  pub used : (g : ℕ) → List·Memᴰ g (c .kept) → InUse m g
+  pub unhinted : (g : ℕ) → List·Memᴰ g (c .kept) → Hinted m hints g → ⊥
+  pub inUse : (g : ℕ) → List·Memᴰ g (c .kept) → InUse (o .lent) g
+  -- "its uncopied objects all stay": each object on it stays or leaves a filler
+  pub all : (x : ℕ) → IsObject m x → List·Memᴰ (x / m .rec .page) (c .kept) → Pairs x x ⊎ List·Memᴰ x (c .fillers)
+  -- it holds an object that is reached without that page and those kept after it
+  pub holds : (i : ℕ) → i < length (c .kept) → (x : ℕ) × (x / m .rec .page ≡ at (c .kept) i) × Reached m roots (OnHintedOrKept m hints (take i (c .kept)) Pairs) x
+  -- pages are kept only when no page is free: each that was free is taken
+  pub full : (g h : ℕ) → List·Memᴰ h (c .kept) → 1 ≤ g → g < m .rec .pages → at (m .labels) g ≡ 0 → List·Memᴰ g (c .taken)
+  -- "The returned counts gain pages kept"
+  pub once : Once (c .kept)
+  pub count : o .kept ≡ length (c .kept)
+
+-- the places c .fillers
+pub record Fills (m : Lent) (o : CollectOutcome) (c : Collection) (Pairs : ℕ → ℕ → Type 0) : Type 0 where
+  -- they are those of the objects "already copied out of a kept page"
+  pub left : (y : ℕ) → List·Memᴰ y (c .fillers) → IsObject m y × List·Memᴰ (y / m .rec .page) (c .kept) × ((z : ℕ) × Pairs y z × (z ≢ y))
+  pub all : (y z : ℕ) → List·Memᴰ (y / m .rec .page) (c .kept) → Pairs y z → z ≢ y → List·Memᴰ y (c .fillers)
+  -- "its old place becomes a filler of the same length, no references, zeros": an object that no object before is paired with
+  pub object : (y : ℕ) → List·Memᴰ y (c .fillers) → IsObject (o .lent) y
+  pub unpaired : (x y : ℕ) → List·Memᴰ y (c .fillers) → Pairs x y → ⊥
+  pub sizes : (y : ℕ) → List·Memᴰ y (c .fillers) → sizeOf (at (o .lent .heap) y) ≡ sizeOf (at (m .heap) y)
+  pub counts : (y : ℕ) → List·Memᴰ y (c .fillers) → refs (o .lent) y ≡ 0
+  pub zeros : (y i : ℕ) → List·Memᴰ y (c .fillers) → i + 1 < sizeOf (at (m .heap) y) → payload (o .lent) y i ≡ 0
+  -- "The returned counts gain .. fillers"
+  pub once : Once (c .fillers)
+  pub count : o .fillers ≡ length (c .fillers)
+
+-- demand 3 of one collection
+pub record Faithful (m : Lent) (roots hints : List ℕ) (o : CollectOutcome) (c : Collection) (Pairs : ℕ → ℕ → Type 0) : Type 0 where
+  -- what stayed on kept pages is like what was on hinted ones
+  pub paired : Paired m roots (OnHintedOrKept m hints (c .kept) Pairs) o Pairs
+  -- "nothing else remains" but the fillers
+  pub nothing : (y : ℕ) → IsObject (o .lent) y → ((x : ℕ) × Pairs x y) ⊎ List·Memᴰ y (c .fillers)
+  -- "objects on hinted pages keep their addresses"
+  pub stays : (x y : ℕ) → Pairs x y → OnHinted m hints x → y ≡ x
+  -- "A page then in use was hinted or holds a copy", or is kept
+  pub pages : (g : ℕ) → InUse (o .lent) g → Hinted m hints g ⊎ (HoldsCopy m Pairs g ⊎ List·Memᴰ g (c .kept))
+  pub keeps : Keeps m roots hints o c Pairs
+  pub fills : Fills m o c Pairs
+
+-- the pages that a collection takes, in order, were free, in 1 to T - 1, and each is taken once. Q-3: there are never more than
+-- the figure by words
 pub record FindsPages (m : Lent) (roots hints : List ℕ) (taken : List ℕ) : Type 0 where
   pub free : (g : ℕ) → List·Memᴰ g taken → (1 ≤ g) × (g < m .rec .pages) × (at (m .labels) g ≡ 0)
-  pub distinct : (i j : ℕ) → i < length taken → j < length taken → at taken i ≡ at taken j → i ≡ j
+  pub distinct : Once taken
   pub few : length taken ≤ neededFor m hints
+
+-- "good roots"
+abbrev pub GoodRoots : Lent → List ℕ → Type 0
+GoodRoots m roots = (r : ℕ) → List·Memᴰ r roots → (r ≡ 0) ⊎ IsObject m r
 
 -- demand 3
 pub record Demand3 : Type 1 where
   -- "the heap stays sound"
   pub sound : (m : Lent) → FromStart m → Sound m
+  -- Q-6: "the claim about free pages becomes that every collection of a sound heap with good roots completes"
+  pub completes : (m : Lent) (roots hints : List ℕ) → FromStart m → GoodRoots m roots → collect m roots hints .refusal ≡ 0
   pub finds : (m : Lent) (roots hints : List ℕ) → FromStart m → collect m roots hints .refusal ≡ 0
       → FindsPages m roots hints (collection plainly m roots hints .taken)
   pub faithful : (m : Lent) (roots hints : List ℕ) → FromStart m → collect m roots hints .refusal ≡ 0
-      → (Pairs : ℕ → ℕ → Type 0) × Faithful m roots hints (collect m roots hints) Pairs
+      → (Pairs : ℕ → ℕ → Type 0) × Faithful m roots hints (collect m roots hints) (collection plainly m roots hints) Pairs

@@ -13,8 +13,8 @@ use Rattle.rules.specs.Lent.{Lent, isLaidOut, isLabel, isOpen, isValid}
 use Rattle.rules.specs.Walk.{walk, behind, starts, stop, wordsOn, isInUse, isStart, isReference, landing, found}
 use Rattle.rules.specs.Sound.{isBlank, refsGood, isUsedSound, isPageSound, isFillSound, isSound}
 use Rattle.rules.specs.Calls.{refused, inside, accepted, start, withObject, allocate, lookUp, load, mayStore, store}
-use Rattle.rules.specs.Collection.{hintPage, hintPages, takePage, withRoom, top, put, copyObject, forward, forwardRoots, sweepReference, sweepReferences, sweepPage, sweepQueue, freedLabels, freedHeap, planOf, begun, afterHints, afterRoots, afterSweep, collection}
-use Rattle.rules.specs.Collect.{isUnhinted, pagesUnhinted, wordsUnhinted, hasRoom, refusalOfCollect, CollectOutcome, refusedCollect, acceptedCollect, collect}
+use Rattle.rules.specs.Collection.{hintPage, hintPages, takePage, withRoom, top, put, copyObject, canCopy, keepPage, keepObject, forward, forwardRoots, sweepReference, sweepReferences, isLeft, sizeAtCopy, sweepPage, sweepQueue, freedLabels, freedHeap, filler, fillPlace, fillPage, fillPages, planOf, begun, afterHints, afterRoots, afterSweep, unkeptPages, keptPages, filled, collection, plainly}
+use Rattle.rules.specs.Collect.{isUnhinted, pagesUnhinted, wordsUnhinted, neededFor, refusalOfCollect, CollectOutcome, refusedCollect, acceptedCollect, collect}
 
 -- memory of T pages of P words that held something else
 abbrev pub held : ℕ → ℕ → Lent
@@ -24,7 +24,7 @@ held P T = record { heap = replicate (T * P) 7; labels = replicate T 7; links = 
 unfoldable pub fresh : Lent
 fresh = start (held 8 6) 8 6 .lent
 
--- document 01's session: what is lent after records 4, 6, 8 and 14
+-- document 01's session: what is lent after records 4, 6, 8, 9, 12 and 14
 unfoldable after4 : Lent
 after4 = allocate (allocate (allocate (allocate fresh 3 1 .lent) 3 0 .lent) 4 0 .lent) 2 0 .lent
 
@@ -37,8 +37,14 @@ record8 = collect after6 (8 ∷ 16 ∷ 12 ∷ 21 ∷ []) []
 unfoldable roots8 : List ℕ
 roots8 = 24 ∷ 32 ∷ 40 ∷ 44 ∷ []
 
+unfoldable record9 : CollectOutcome
+record9 = collect (record8 .lent) roots8 []
+
+unfoldable record12 : CollectOutcome
+record12 = collect (record9 .lent) (8 ∷ 16 ∷ 40 ∷ 44 ∷ []) (18 ∷ 7 ∷ [])
+
 unfoldable record14 : CollectOutcome
-record14 = collect (record8 .lent) roots8 (34 ∷ 24 ∷ [])
+record14 = collect (record12 .lent) (24 ∷ 16 ∷ 28 ∷ 32 ∷ []) (18 ∷ 24 ∷ [])
 
 -- P 8, T 5: with one page in use N is 4, and 3k + 2 is 5
 unfoldable small : Lent
@@ -66,6 +72,23 @@ spread = collect (allocate (allocate (allocate fresh 3 0 .lent) 3 0 .lent) 4 0 .
 
 unfoldable scattered : List ℕ
 scattered = 24 ∷ 32 ∷ 40 ∷ []
+
+-- Q-6: P 8, T 4, page 3 is free. On page 1 an object of 4 words and one with a reference to it, on page 2 one of 5 words with
+-- references to both
+unfoldable crowded : Lent
+crowded = record {
+  heap = 0 ∷ 0 ∷ 0 ∷ 0 ∷ 0 ∷ 0 ∷ 0 ∷ 0
+      ∷ headerOf 3 0 ∷ 7 ∷ 7 ∷ 7 ∷ headerOf 3 1 ∷ 8 ∷ 5 ∷ 6
+      ∷ headerOf 4 2 ∷ 8 ∷ 12 ∷ 1 ∷ 2 ∷ 0 ∷ 0 ∷ 0
+      ∷ 0 ∷ 0 ∷ 0 ∷ 0 ∷ 0 ∷ 0 ∷ 0 ∷ 0 ∷ [];
+  labels = 0 ∷ 1 ∷ 1 ∷ 0 ∷ [];
+  links = 0 ∷ 0 ∷ 0 ∷ 0 ∷ [];
+  rec = record { page = 8; pages = 4; label = 1; opened = 0; fill = 8 };
+}
+
+-- the first object is copied to page 3; the third fits nowhere, and keeps page 2; it refers to the second, which keeps page 1
+unfoldable relieved : CollectOutcome
+relieved = collect crowded (8 ∷ 16 ∷ []) []
 
 -- Q-5: what a start with P 0 and T 3 left before, "older records" among it
 unfoldable pub older : Lent
@@ -101,15 +124,21 @@ record Examples : Type 0 where
   r8-reference : at (record8 .lent .heap) 25 ≡ 40
   r8-freed : take 24 (record8 .lent .heap) ≡ replicate 24 0
   r8-sound : isSound (record8 .lent) ≡ true
-  -- records 9 and 12: no room
-  r9 : collect (record8 .lent) roots8 [] .refusal ≡ 8
-  r12 : collect (record8 .lent) roots8 (34 ∷ 23 ∷ []) .refusal ≡ 8
-  -- record 14: two pages are hinted, 7 words are copied; records 15 and 16 load from what is left
-  r14 : record14 .words ≡ 7
-  r14-roots : record14 .roots ≡ 24 ∷ 32 ∷ 8 ∷ 12 ∷ []
-  r14-rest : (record14 .hinted ≡ 2) × (record14 .taken ≡ 1) × (record14 .lent .rec .opened ≡ 1) × (record14 .lent .rec .fill ≡ 7)
-  r15 : load (record14 .lent) 8 2 .value ≡ 77
-  r16 : load (record14 .lent) 24 0 .value ≡ 8
+  -- record 9: 4 and 5 words fill two pages; the next 4 fit neither the copy page nor a free one, so page 5 is kept, with both its objects
+  r9 : (record9 .refusal ≡ 0) × (record9 .words ≡ 9)
+  r9-roots : record9 .roots ≡ 8 ∷ 16 ∷ 40 ∷ 44 ∷ []
+  r9-counts : (record9 .hinted ≡ 0) × (record9 .taken ≡ 2) × (record9 .objects ≡ 2) × (record9 .kept ≡ 1) × (record9 .fillers ≡ 0)
+  r9-labels : record9 .lent .labels ≡ 0 ∷ 1 ∷ 1 ∷ 0 ∷ 0 ∷ 1 ∷ []
+  -- record 12: page 2 is hinted, and what else is there fits two pages
+  r12 : record12 .words ≡ 11
+  r12-roots : record12 .roots ≡ 24 ∷ 16 ∷ 28 ∷ 32 ∷ []
+  r12-counts : (record12 .hinted ≡ 1) × (record12 .taken ≡ 2) × (record12 .kept ≡ 0)
+  -- record 14: two pages are hinted, 3 words are copied; records 15 and 16 load from what is left
+  r14 : record14 .words ≡ 3
+  r14-roots : record14 .roots ≡ 24 ∷ 16 ∷ 28 ∷ 8 ∷ []
+  r14-rest : (record14 .hinted ≡ 2) × (record14 .taken ≡ 1) × (record14 .lent .rec .opened ≡ 1) × (record14 .lent .rec .fill ≡ 3)
+  r15 : load (record14 .lent) 28 2 .value ≡ 77
+  r16 : load (record14 .lent) 24 0 .value ≡ 28
   -- "Two root cells with one address end with one address."
   shared : collect itself (8 ∷ 8 ∷ []) [] .roots ≡ 16 ∷ 16 ∷ []
   shared-once : collect itself (8 ∷ 8 ∷ []) [] .objects ≡ 1
@@ -118,19 +147,31 @@ record Examples : Type 0 where
   -- a hinted page stays, and its reference follows the copy
   hinted : collect across [] (9 ∷ []) .lent .labels ≡ 0 ∷ 2 ∷ 0 ∷ 2 ∷ 0 ∷ 0 ∷ []
   hinted-reference : at (collect across [] (9 ∷ []) .lent .heap) 9 ≡ 24
-  -- Q-1: word 48, past the last page, keeps page 5; without it there would be no room
+  -- Q-1: word 48, past the last page, keeps page 5 in place
   past-the-end : collect (record8 .lent) roots8 (48 ∷ 34 ∷ []) .hinted ≡ 2
   -- a word at a boundary keeps both pages, its own first: so what page 2 refers to is copied first
   both : collect boundary [] (16 ∷ []) .lent .labels ≡ 0 ∷ 2 ∷ 2 ∷ 0 ∷ 2 ∷ 0 ∷ 0 ∷ 0 ∷ 0 ∷ 0 ∷ 0 ∷ 0 ∷ []
   own-first : at (collect boundary [] (16 ∷ []) .lent .heap) 17 ≡ 32
   then-before : at (collect boundary [] (16 ∷ []) .lent .heap) 9 ≡ 35
   -- Q-3: with the 5 words hinted 8 are left: they need one page, where 2k' - 1 is three
-  eight : (wordsUnhinted spread (33 ∷ []) ≡ 8) × (pagesUnhinted spread (33 ∷ []) ≡ 2) × (collect spread scattered (33 ∷ []) .refusal ≡ 0)
+  eight : (wordsUnhinted spread (33 ∷ []) ≡ 8) × (pagesUnhinted spread (33 ∷ []) ≡ 2) × (neededFor spread (33 ∷ []) ≡ 1)
   eight-taken : (collect spread scattered (33 ∷ []) .taken ≡ 1) × (collect spread scattered (33 ∷ []) .words ≡ 8)
-  -- one word more may need three, and is refused; so is all of it; and with every page hinted there is nothing to copy
-  nine : (wordsUnhinted spread (25 ∷ []) ≡ 9) × (collect spread scattered (25 ∷ []) .refusal ≡ 8)
-  thirteen : (wordsUnhinted spread [] ≡ 13) × (collect spread scattered [] .refusal ≡ 8)
-  nothing : (wordsUnhinted spread scattered ≡ 0) × (collect spread scattered scattered .refusal ≡ 0)
+  -- one word more may need three: here it takes the two that are free; all of it takes them and keeps a page (Q-6); and with every page
+  -- hinted there is nothing to copy
+  nine : (wordsUnhinted spread (25 ∷ []) ≡ 9) × (collect spread scattered (25 ∷ []) .taken ≡ 2) × (collect spread scattered (25 ∷ []) .kept ≡ 0)
+  thirteen : (wordsUnhinted spread [] ≡ 13) × (collect spread scattered [] .taken ≡ 2) × (collect spread scattered [] .kept ≡ 1)
+  nothing : (wordsUnhinted spread scattered ≡ 0) × (collect spread scattered scattered .taken ≡ 0)
+  -- Q-6: two pages are kept, in order, and a filler stands where the object that was copied had been; the object behind it is swept
+  crowded-sound : isSound crowded ≡ true
+  keeps : (relieved .taken ≡ 1) × (relieved .objects ≡ 1) × (relieved .words ≡ 4) × (relieved .kept ≡ 2) × (relieved .fillers ≡ 1)
+  keeps-in-order : collection plainly crowded (8 ∷ 16 ∷ []) [] .kept ≡ 2 ∷ 1 ∷ []
+  keeps-roots : relieved .roots ≡ 24 ∷ 16 ∷ []
+  keeps-labels : relieved .lent .labels ≡ 0 ∷ 2 ∷ 2 ∷ 2 ∷ []
+  fills : drop 8 (take 16 (relieved .lent .heap)) ≡ headerOf 3 0 ∷ 0 ∷ 0 ∷ 0 ∷ headerOf 3 1 ∷ 24 ∷ 5 ∷ 6 ∷ []
+  follows : drop 16 (take 21 (relieved .lent .heap)) ≡ headerOf 4 2 ∷ 24 ∷ 12 ∷ 1 ∷ 2 ∷ []
+  relieved-sound : isSound (relieved .lent) ≡ true
+  -- once the roots let go, all of it is free again
+  comes-free : collect (relieved .lent) (0 ∷ 0 ∷ []) [] .lent .labels ≡ 0 ∷ 0 ∷ 0 ∷ 0 ∷ []
   -- unsound heaps and bad roots are refused: a stray word on a free page, a root inside an object
   stray : collect (record { heap = replicate 48 1; labels = fresh .labels; links = fresh .links; rec = fresh .rec }) [] [] .refusal ≡ 7
   root : collect across (9 ∷ []) [] .refusal ≡ 6
@@ -147,7 +188,7 @@ record Examples : Type 0 where
   store-reference : (store after6 8 0 13 .refusal ≡ 6) × (store after6 8 0 13 .value ≡ 0)
 
 examples : Examples
-unfolding older from block each has count sum first headerOf sizeOf refsOf isHeader isPageSize pageAtStart isShape pageNamed pageNamedBefore pagesOfHint pagesNamed isFree lowestFree pagesUsed pagesNeeded otherLabel isLaidOut isLabel isOpen isValid walk behind starts stop wordsOn isInUse isStart isReference landing found isBlank refsGood isUsedSound isPageSound isFillSound isSound refused inside accepted start withObject allocate lookUp load mayStore store hintPage hintPages takePage withRoom top put copyObject forward forwardRoots sweepReference sweepReferences sweepPage sweepQueue freedLabels freedHeap planOf begun afterHints afterRoots afterSweep collection isUnhinted pagesUnhinted wordsUnhinted hasRoom refusalOfCollect refusedCollect acceptedCollect collect fresh small after4 after6 record8 roots8 record14 itself across boundary spread scattered
+unfolding older from block each has count sum first headerOf sizeOf refsOf isHeader isPageSize pageAtStart isShape pageNamed pageNamedBefore pagesOfHint pagesNamed isFree lowestFree pagesUsed pagesNeeded otherLabel isLaidOut isLabel isOpen isValid walk behind starts stop wordsOn isInUse isStart isReference landing found isBlank refsGood isUsedSound isPageSound isFillSound isSound refused inside accepted start withObject allocate lookUp load mayStore store hintPage hintPages takePage withRoom top put copyObject canCopy keepPage keepObject forward forwardRoots sweepReference sweepReferences isLeft sizeAtCopy sweepPage sweepQueue freedLabels freedHeap filler fillPlace fillPage fillPages planOf begun afterHints afterRoots afterSweep unkeptPages keptPages filled collection isUnhinted pagesUnhinted wordsUnhinted refusalOfCollect refusedCollect acceptedCollect collect fresh small after4 after6 record8 roots8 record9 record12 record14 itself across boundary spread scattered crowded relieved
 examples = record {
   header = refl;
   header-refs = refl;
@@ -172,8 +213,13 @@ examples = record {
   r8-reference = refl;
   r8-freed = refl;
   r8-sound = refl;
-  r9 = refl;
+  r9 = (refl, refl);
+  r9-roots = refl;
+  r9-counts = (refl, refl, refl, refl, refl);
+  r9-labels = refl;
   r12 = refl;
+  r12-roots = refl;
+  r12-counts = (refl, refl, refl);
   r14 = refl;
   r14-roots = refl;
   r14-rest = (refl, refl, refl, refl);
@@ -190,9 +236,18 @@ examples = record {
   then-before = refl;
   eight = (refl, refl, refl);
   eight-taken = (refl, refl);
-  nine = (refl, refl);
-  thirteen = (refl, refl);
+  nine = (refl, refl, refl);
+  thirteen = (refl, refl, refl);
   nothing = (refl, refl);
+  crowded-sound = refl;
+  keeps = (refl, refl, refl, refl, refl);
+  keeps-in-order = refl;
+  keeps-roots = refl;
+  keeps-labels = refl;
+  fills = refl;
+  follows = refl;
+  relieved-sound = refl;
+  comes-free = refl;
   stray = refl;
   root = refl;
   at-start = (refl, refl);

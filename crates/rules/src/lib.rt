@@ -42,8 +42,8 @@ pub struct Answer {
     pub rec: Record,
 }
 
-// What collect answers: the refusal's number, 0 if accepted; pages hinted, pages taken, objects copied
-// and words copied, four zeros if refused; and the record.
+// What collect answers: the refusal's number, 0 if accepted; pages hinted, pages taken, objects copied,
+// words copied, pages kept and fillers, six zeros if refused; and the record.
 #[repr(C)]
 pub struct Collected {
     pub refusal: u32,
@@ -51,6 +51,8 @@ pub struct Collected {
     pub taken: u32,
     pub objects: u32,
     pub words: u32,
+    pub kept: u32,
+    pub fillers: u32,
     pub rec: Record,
 }
 

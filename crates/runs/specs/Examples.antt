@@ -1,5 +1,5 @@
--- The definitions are tried: antt computes document 01's session, from its bytes to the bytes of its output, and the ends of
--- the input. Everything here is closed, and every proof is refl.
+-- The definitions are tried: antt computes document 01's session, from its bytes to the bytes of its output (from record 9 on as Q-6
+-- has it), and the ends of the input. Everything here is closed, and every proof is refl.
 use mathlib.Core.Path.{_≡_, refl}
 use mathlib.Core.List.{List, [], _∷_}
 use Prim.Native.Nat.{ℕ}
@@ -12,8 +12,8 @@ use Rattle.rules.specs.Walk.{walk, behind, starts, stop, wordsOn, isInUse, isSt
 use Rattle.rules.specs.Sound.{isBlank, refsGood, isUsedSound, isPageSound, isFillSound, isSound}
 use Rattle.rules.specs.Calls as calls
 use Rattle.rules.specs.Calls.{start, inside, withObject, allocate, lookUp, load, mayStore, store}
-use Rattle.rules.specs.Collection.{hintPage, hintPages, takePage, withRoom, top, put, copyObject, forward, forwardRoots, sweepReference, sweepReferences, sweepPage, sweepQueue, freedLabels, freedHeap, planOf, begun, afterHints, afterRoots, afterSweep, collection}
-use Rattle.rules.specs.Collect.{isUnhinted, wordsUnhinted, hasRoom, refusalOfCollect, refusedCollect, acceptedCollect, collect}
+use Rattle.rules.specs.Collection.{hintPage, hintPages, takePage, withRoom, top, put, copyObject, canCopy, keepPage, keepObject, forward, forwardRoots, sweepReference, sweepReferences, isLeft, sizeAtCopy, sweepPage, sweepQueue, freedLabels, freedHeap, filler, fillPlace, fillPage, fillPages, planOf, begun, afterHints, afterRoots, afterSweep, unkeptPages, keptPages, filled, collection}
+use Rattle.rules.specs.Collect.{refusalOfCollect, refusedCollect, acceptedCollect, collect}
 use Rattle.entries.specs.Entries.{decode}
 use Rattle.steps.specs.Session.{before, refused, accepted, passed, blank, perform, step}
 use Rattle.lines.specs.Lines.{digits, number, line, noted, ending}
@@ -52,15 +52,15 @@ output =
     54 ∷ 32 ∷ 48 ∷ 32 ∷ 48 ∷ 10 ∷
     55 ∷ 32 ∷ 51 ∷ 32 ∷ 48 ∷ 10 ∷
     56 ∷ 32 ∷ 48 ∷ 32 ∷ 49 ∷ 54 ∷ 10 ∷
-    57 ∷ 32 ∷ 56 ∷ 32 ∷ 48 ∷ 10 ∷
-    49 ∷ 48 ∷ 32 ∷ 48 ∷ 32 ∷ 51 ∷ 52 ∷ 10 ∷
-    49 ∷ 49 ∷ 32 ∷ 48 ∷ 32 ∷ 50 ∷ 51 ∷ 10 ∷
-    49 ∷ 50 ∷ 32 ∷ 56 ∷ 32 ∷ 48 ∷ 10 ∷
+    57 ∷ 32 ∷ 48 ∷ 32 ∷ 57 ∷ 10 ∷
+    49 ∷ 48 ∷ 32 ∷ 48 ∷ 32 ∷ 49 ∷ 56 ∷ 10 ∷
+    49 ∷ 49 ∷ 32 ∷ 48 ∷ 32 ∷ 55 ∷ 10 ∷
+    49 ∷ 50 ∷ 32 ∷ 48 ∷ 32 ∷ 49 ∷ 49 ∷ 10 ∷
     49 ∷ 51 ∷ 32 ∷ 48 ∷ 32 ∷ 50 ∷ 52 ∷ 10 ∷
-    49 ∷ 52 ∷ 32 ∷ 48 ∷ 32 ∷ 55 ∷ 10 ∷
+    49 ∷ 52 ∷ 32 ∷ 48 ∷ 32 ∷ 51 ∷ 10 ∷
     49 ∷ 53 ∷ 32 ∷ 48 ∷ 32 ∷ 55 ∷ 55 ∷ 10 ∷
-    49 ∷ 54 ∷ 32 ∷ 48 ∷ 32 ∷ 56 ∷ 10 ∷
-    101 ∷ 110 ∷ 100 ∷ 32 ∷ 49 ∷ 55 ∷ 32 ∷ 49 ∷ 52 ∷ 32 ∷ 51 ∷ 10 ∷ []
+    49 ∷ 54 ∷ 32 ∷ 48 ∷ 32 ∷ 50 ∷ 56 ∷ 10 ∷
+    101 ∷ 110 ∷ 100 ∷ 32 ∷ 49 ∷ 55 ∷ 32 ∷ 49 ∷ 54 ∷ 32 ∷ 49 ∷ 10 ∷ []
 
 -- Q-2: an object at 8 of 4 words in root 0. Looked up are its start, its last word, the word behind it and, modulo 2^32, the one
 -- before it. Operation 9 is none.
@@ -94,7 +94,7 @@ record Examples : Type 0 where
   seven : transcript (take 7 input) ≡ 48 ∷ 32 ∷ 57 ∷ 32 ∷ 48 ∷ 10 ∷ 101 ∷ 110 ∷ 100 ∷ 32 ∷ 49 ∷ 32 ∷ 48 ∷ 32 ∷ 49 ∷ 10 ∷ []
 
 examples : Examples
-unfolding from block each has count sum first headerOf sizeOf refsOf isHeader isPageSize pageAtStart isShape pageNamed pageNamedBefore pagesOfHint pagesNamed isFree lowestFree pagesUsed pagesNeeded otherLabel isLaidOut isLabel isOpen isValid walk behind starts stop wordsOn isInUse isStart isReference landing found isBlank refsGood isUsedSound isPageSound isFillSound isSound calls.refused inside calls.accepted start withObject allocate lookUp load mayStore store hintPage hintPages takePage withRoom top put copyObject forward forwardRoots sweepReference sweepReferences sweepPage sweepQueue freedLabels freedHeap planOf begun afterHints afterRoots afterSweep collection isUnhinted wordsUnhinted hasRoom refusalOfCollect refusedCollect acceptedCollect collect decode before refused accepted passed blank perform step digits number line noted ending rest run transcript input output looked told
+unfolding from block each has count sum first headerOf sizeOf refsOf isHeader isPageSize pageAtStart isShape pageNamed pageNamedBefore pagesOfHint pagesNamed isFree lowestFree pagesUsed pagesNeeded otherLabel isLaidOut isLabel isOpen isValid walk behind starts stop wordsOn isInUse isStart isReference landing found isBlank refsGood isUsedSound isPageSound isFillSound isSound calls.refused inside calls.accepted start withObject allocate lookUp load mayStore store hintPage hintPages takePage withRoom top put copyObject canCopy keepPage keepObject forward forwardRoots sweepReference sweepReferences isLeft sizeAtCopy sweepPage sweepQueue freedLabels freedHeap filler fillPlace fillPage fillPages planOf begun afterHints afterRoots afterSweep unkeptPages keptPages filled collection refusalOfCollect refusedCollect acceptedCollect collect decode before refused accepted passed blank perform step digits number line noted ending rest run transcript input output looked told
 examples = record {
   document01 = refl;
   look-up = refl;

@@ -1,5 +1,7 @@
 pub mod Session
 pub mod Unchanged
+pub mod Ready
+pub mod Collects
 pub mod Soundness
 pub mod Code
 pub mod Default

@@ -140,7 +140,7 @@ fn hint(roots: &[u32], hints: &mut [u32], r: Record, x: u32, y: u32, v: u32) -> 
     }
 }
 
-// A collection, of whose four counts the words copied are the value.
+// A collection, of whose six counts the words copied are the value.
 fn collect(
     heap: &mut [u32],
     labels: &mut [u16],

@@ -1,22 +1,24 @@
 -- The walks of the heap after the sweep: on a page with the new label the walk meets the places of that page and nothing else,
--- only zeros stand from its stop on, and on the copy page it stops at the fill. The heap h may differ from the sweep's on other
--- pages, as freeing leaves it.
+-- only zeros stand from its stop on, and on the copy page it stops at the fill. The heap h has fillers on that page, in the places that
+-- copied objects left, and may differ from the sweep's on other pages, as freeing leaves it.
 use mathlib.Core.Path.{_≡_, sym, ap, _∙_, subst}
 use mathlib.Core.Logic.{_⊎_, inl, inr}
 use mathlib.Core.Bool.{true, false, true≢false}
 use mathlib.Core.List.{List, [], _∷_, List·Memᴰ, List·Memᴰ·head, List·Memᴰ·tail, List·Memᴰ·cases-cons, List·Memᴰ·not-nil}
 use Prim.Native.Nat.{ℕ, _+_, _*_, _-_, _≤_}
+use native.Mathlib.Nat.{add-zero, le-refl}
 use native.Mathlib.Omega.{arith}
 use Rattle.rules.specs.Ranges.{at}
-use Rattle.rules.specs.Header.{sizeOf, isHeader}
+use Rattle.rules.specs.Header.{headerOf, sizeOf, isHeader}
 use Rattle.rules.specs.Collection.{State, top}
 use Rattle.laws.specs.Headers.{Header, header-says, header-is}
 use Rattle.laws.specs.Pages.{on-page}
 use Rattle.laws.specs.Walk.{size, Steps, stops, step}
 use Rattle.theory.specs.World.{pageOf, sizeAt, World, Place, Inv}
-use Rattle.theory.specs.Places.{SameOrApart, place-obj, place-end, place-apart, place-kept}
+use Rattle.theory.specs.Places.{SameOrApart, Standing, there, left, some-words, place-obj, place-end, place-apart, standing}
 use Rattle.theory.specs.Tile.{Tiled}
-use Rattle.theory.specs.SweepPage.{Cursor, at-place, at-stop, behind-place}
+use Rattle.theory.specs.Cursor.{Cursor, at-place, at-stop, behind-place}
+use Rattle.theory.specs.Fillers.{FilledPage, filler-size, filler-header, kept-clear, stop-clear}
 
 -- a walk of page g from a met the list and stopped at z
 pub record Covers (W : World) (t : State) (h : List ℕ) (g a : ℕ) (l : List ℕ) (z : ℕ) : Type 0 where
@@ -25,24 +27,32 @@ pub record Covers (W : World) (t : State) (h : List ℕ) (g a : ℕ) (l : List �
   pub tail : (w : ℕ) → pageOf W w ≡ g → z ≤ w → at h w ≡ 0
   pub end : g ≡ t .pages .copy → z ≡ top (W .plan) (t .pages)
 
-module _ (W : World) (t : State) (I : Inv W t) (T : Tiled W t) (h : List ℕ) (g : ℕ) (new : at (t .pages .labels) g ≡ W .plan .new)
-    (agree : (w : ℕ) → pageOf W w ≡ g → at h w ≡ at (t .heap) w) where
-  -- a place has the object's header
+module _ (W : World) (t : State) (I : Inv W t) (T : Tiled W t) (h : List ℕ) (g : ℕ) (new : at (t .pages .labels) g ≡ W .plan .new) (F : FilledPage W t h g) where
+  -- a place begins with a header of the object's size: the retained object's own, or a filler's
   place-header : (a room x : ℕ) → a + room ≡ g * W .plan .page + W .plan .page → Place W t x a → pageOf W a ≡ g
-      → (at h a ≡ at (W .heap) x) × Header (at (W .heap) x) room
-  place-header a room x e K pg =
-      let ob : W .Obj x = place-obj W t I x a K in
-      let hd : at h a ≡ at (W .heap) x = agree a pg ∙ I .header x a (place-kept W t I x a (ap (at (t .pages .labels)) pg ∙ new) K) in
-      (hd, record { odd = W .odd x ob; shape = W .shape x ob; fits = omega (arith, place-end W t I g x a K pg) })
+      → (size h a ≡ sizeAt W x) × Header (at h a) room
+  place-header a room x e K pg = go (standing W t I x a (ap (at (t .pages .labels)) pg ∙ new) K)
+    where
+      ob : W .Obj x
+      ob = place-obj W t I x a K
+
+      fits : sizeAt W x ≤ room
+      fits = omega (arith, place-end W t I g x a K pg)
+
+      go : Standing W t x a → (size h a ≡ sizeAt W x) × Header (at h a) room
+      go (there k) =
+          let hd : at h a ≡ at (W .heap) x = F .same a pg (simp add-zero at (kept-clear W t I x a 0 k (some-words W x ob))) ∙ I .header x a k in
+          (ap sizeOf hd, rw hd (record { odd = W .odd x ob; shape = W .shape x ob; fits = fits }))
+      go (left m mem ex ey) =
+          let hd : at h a ≡ headerOf (sizeAt W x - 1) 0 = rw (ey, ex) (F .head m mem (ap (pageOf W) (sym (ey ∙ ex)) ∙ pg)) in
+          (ap sizeOf hd ∙ filler-size (sizeAt W x) (some-words W x ob), rw hd (filler-header (sizeAt W x) room (some-words W x ob) fits))
 
   covers-stop : (a room : ℕ) → isHeader (at h a) room ≡ false → a + room ≡ g * W .plan .page + W .plan .page → Cursor W t g a room → Covers W t h g a [] a
-  covers-stop a room f e (at-place x K pg) =
-      let (hd, H) = place-header a room x e K pg in
-      absurd (true≢false (sym (header-is (at (W .heap) x) room H) ∙ ap (λ (w : ℕ). isHeader w room) (sym hd) ∙ f))
-  covers-stop a room f e (at-stop q none bl tp) = record {
+  covers-stop a room f e (at-place x K pg) = absurd (true≢false (sym (header-is (at h a) room (place-header a room x e K pg .1)) ∙ f))
+  covers-stop a room f e (at-stop q l none bl tp) = record {
     only = λ b m. absurd (List·Memᴰ·not-nil m);
     all = λ x b k pg le. absurd (let l : b + sizeAt W x ≤ a = none x b k pg in omega (arith, W .shape x (place-obj W t I x b k)));
-    tail = λ w q l. agree w q ∙ bl w q l;
+    tail = λ w q l. F .same w q (stop-clear W t I g a none w q l) ∙ bl w q l;
     end = tp;
   }
 
@@ -66,13 +76,13 @@ module _ (W : World) (t : State) (I : Inv W t) (T : Tiled W t) (h : List ℕ) (g
   covers-step : (a room : ℕ) (l : List ℕ) (z : ℕ) → isHeader (at h a) room ≡ true → g * W .plan .page ≤ a → a + room ≡ g * W .plan .page + W .plan .page → Cursor W t g a room
       → (g * W .plan .page ≤ a + size h a → a + size h a + (room - size h a) ≡ g * W .plan .page + W .plan .page → Cursor W t g (a + size h a) (room - size h a) → Covers W t h g (a + size h a) l z)
       → Covers W t h g a (a ∷ l) z
-  covers-step a room l z f lo e (at-stop q none bl tp) ih =
+  covers-step a room l z f lo e (at-stop q lf none bl tp) ih =
       let H : Header (at h a) room = header-says _ _ f in
       let pg : pageOf W a ≡ g = on-page (W .pos) a g lo (omega (arith, H .shape, H .fits)) in
-      absurd (true≢false (sym f ∙ ap (λ (w : ℕ). isHeader w room) (agree a pg) ∙ q))
+      let same : at h a ≡ at (t .heap) a = F .same a pg (stop-clear W t I g a none a pg (le-refl a)) in
+      absurd (true≢false (sym f ∙ ap (λ (w : ℕ). isHeader w room) same ∙ q))
   covers-step a room l z f lo e (at-place x K pg) ih =
-      let (hd, H) = place-header a room x e K pg in
-      let sz : size h a ≡ sizeAt W x = ap sizeOf hd in
+      let (sz, H) = place-header a room x e K pg in
       covers-place a x l z K pg
       (subst (λ (n : ℕ). Covers W t h g (a + n) l z) sz
       (ih (omega arith) (omega (arith, H .fits))

@@ -8,7 +8,7 @@ use native.Mathlib.Omega.{arith}
 use lib.ListN.{length}
 use Rattle.rules.specs.Ranges.{at, block, sum}
 use Rattle.rules.specs.Header.{refsOf}
-use Rattle.rules.specs.Pages.{pagesNamed, pagesUsed, pagesNeeded, otherLabel}
+use Rattle.rules.specs.Pages.{pagesNamed, pagesUsed, otherLabel}
 use Rattle.rules.specs.Lent.{Lent}
 use Rattle.rules.specs.Walk.{starts, stop}
 use Rattle.rules.specs.Sound.{InUse, IsObject, Sound}
@@ -24,8 +24,10 @@ use Rattle.laws.specs.FreePages.{not-free, freePages, used-and-free, free-same}
 use Rattle.laws.specs.Room.{words-used}
 use Rattle.theory.specs.Sums.{gather-mem}
 use Rattle.theory.specs.Packing.{packed-none}
+use Rattle.theory.specs.KeptPages.{kept-none}
 use Rattle.theory.specs.World.{World, Kept, stayed, went, Place, home, away, Inv}
 use Rattle.theory.specs.Packs.{froms, Packs}
+use Rattle.theory.specs.Causes.{causes-none}
 use Rattle.theory.specs.Tile.{Next, another, blank, Tiled}
 use Rattle.theory.specs.Good.{Good}
 use Rattle.theory.specs.Hints.{Unhinted, Hinting, begun-hinting, hint-pages, pages-get, free-as-before, hints-safe}
@@ -34,7 +36,7 @@ use Rattle.theory.specs.SoundHeap.{layout, other≢0, other≢label, in-
 use Rattle.laws.specs.Objects.{met-object, met-page, objects-apart, page-pos}
 use Rattle.laws.specs.Valid.{label-pos}
 
-module _ (m : Lent) (roots hints : List ℕ) (A : Accepted m roots hints) where
+module _ (m : Lent) (roots hints : List ℕ) (A : Accepted m roots) where
   abbrev S : Sound m
   S = A .sound
 
@@ -81,6 +83,10 @@ module _ (m : Lent) (roots hints : List ℕ) (A : Accepted m roots hints) where
   pub free-stays : (g : ℕ) → at (m .labels) g ≡ 0 → at (p .labels) g ≡ 0
   unfolding planOf begun
   free-stays g e = H .none g e
+
+  pub free-same-pages : freePages (p .labels) 1 (m .rec .pages) ≡ freePages (m .labels) 1 (m .rec .pages)
+  unfolding begun
+  free-same-pages = free-same (p .labels) (m .labels) 1 (m .rec .pages) (free-as-before k (begun m) U named p H)
 
   pub labels-length : length (p .labels) ≡ m .rec .pages
   unfolding planOf begun
@@ -152,7 +158,8 @@ module _ (m : Lent) (roots hints : List ℕ) (A : Accepted m roots hints) where
   first-inv = record {
     heapLength = refl;
     labelsLength = refl;
-    used = λ g e. refl;
+    used = λ g e. inl refl;
+    kept = λ g h. absurd (List·Memᴰ·not-nil (subst (List·Memᴰ g) (kept-none p (H .kept)) h));
     free = λ g e. inl e;
     copyFresh = ap (at (p .labels)) (H .copy) ∙ free-stays 0 (S .zero);
     copyLabel = λ h. absurd (omega (arith, H .fill));
@@ -210,20 +217,14 @@ module _ (m : Lent) (roots hints : List ℕ) (A : Accepted m roots hints) where
   unfolding world planOf begun froms sum
   first-packs = record {
     taken = 0;
-    joined = omega arith;
+    joined = omega (arith, H .kept);
     left = omega arith;
+    unkept = λ enough. H .kept;
     distinct = tt;
     packed = packed-none _ _;
     words = refl;
     objects = omega arith;
-    room = room;
   }
-    where
-      room : pagesNeeded (m .rec .page) (sum (size (m .heap)) (objectsUnhinted m hints)) ≤ freePages (p .labels) 1 (m .rec .pages)
-      room =
-          let same : freePages (p .labels) 1 (m .rec .pages) ≡ freePages (m .labels) 1 (m .rec .pages) =
-          free-same (p .labels) (m .labels) 1 (m .rec .pages) (free-as-before k (begun m) U named p H) in
-          rw (words-are m hints) (omega (arith, A .room))
 
   pub first-good : Good world s
   unfolding world planOf begun
@@ -231,6 +232,7 @@ module _ (m : Lent) (roots hints : List ℕ) (A : Accepted m roots hints) where
     inv = first-inv;
     packs = first-packs;
     tiled = first-tiled;
-    lined = record { queued = H .queued; last = λ h. absurd (omega (arith, H .fill)) };
+    lined = record { queued = H .queued; last = λ u h. absurd (omega (arith, H .fill)) };
+    causes = causes-none world s (H .kept);
     filled = omega (arith, H .fill, page-pos m (S .valid));
   }

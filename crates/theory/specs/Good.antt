@@ -2,30 +2,35 @@
 use mathlib.Core.Path.{_≡_, refl, sym, ap, _∙_, subst}
 use mathlib.Core.Logic.{_⊎_, inl, inr}
 use mathlib.Core.Bool.{Bool, true, false, cond}
+use mathlib.Core.List.{[]}
 use Prim.Native.Nat.{ℕ, suc, _+_, _≤_, _<_}
 use native.Mathlib.Nat.{le-refl, le-trans}
 use native.Mathlib.Omega.{arith}
 use lib.Dec.{leb}
 use lib.ListN.{length, length-append, List·getD-append}
+use lib.Seq.{getD-append-seam}
 use borrow.Author.Tests.{leb-false}
 use Rattle.rules.specs.Ranges.{at}
-use Rattle.rules.specs.Collection.{State, Forwarded, takePage, withRoom, top, put, forward}
+use Rattle.rules.specs.Collection.{State, onPages, Forwarded, takePage, withRoom, top, put, canCopy, keepPage, forward}
 use Rattle.rules.specs.Demands.{Becomes}
 use Rattle.laws.specs.Safe.{SafeForward}
 use Rattle.theory.specs.World.{Swept, becomes-map, pageOf, labelOf, sizeAt, refsAt, World, stay, Reach, Kept, stayed, went, Region, Inv}
 use Rattle.theory.specs.Places.{some-words, kept-obj, kept-region}
 use Rattle.theory.specs.Put.{Ready, put-inv, top-page, kept-split}
-use Rattle.theory.specs.Take.{Extends, ext-trans, ext-kept, put-ext, onPages, take-back}
-use Rattle.theory.specs.Forward.{Due, Avail, roomFor, copied, How, idle, copies, Forwards, Opened, open-room, forward-forwards}
-use Rattle.theory.specs.Packs.{Packs, packs-how, able}
+use Rattle.theory.specs.Take.{Extends, ext-trans, ext-kept, put-ext, take-back}
+use Rattle.theory.specs.Keep.{Comes, kept-split as keep-split, keep-inv, keep-ext}
+use Rattle.theory.specs.Forward.{Due, Avail, roomFor, copied, keeping, How, idle, copies, keeps, Forwards, Opened, open-room, forward-forwards}
+use Rattle.theory.specs.Packs.{Packs, packs-within, packs-how}
 use Rattle.theory.specs.ForwardSafe.{forward-safe}
-use Rattle.theory.specs.Tile.{Tiled, Lined, take-tiled, take-lined, put-tiled, put-lined}
+use Rattle.theory.specs.Causes.{Causes, causes-how}
+use Rattle.theory.specs.Tile.{Tiled, Lined, take-tiled, take-lined, put-tiled, put-lined, keep-tiled, keep-lined}
 
 pub record Good (W : World) (s : State) : Type 0 where
   pub inv : Inv W s
   pub packs : Packs W s
   pub tiled : Tiled W s
   pub lined : Lined W s
+  pub causes : Causes W s
   pub filled : 0 < s .pages .fill
 
 -- ---- growth
@@ -80,6 +85,12 @@ pub kept-reach : (W : World) (s : State) → Inv W s → (x y : ℕ) → Kept W 
 kept-reach W s I x y (stayed q e) = stay q
 kept-reach W s I x y (went m mem ex ey) = subst (Reach W s) (sym ex) (I .moved m mem .reached)
 
+-- what is swept stays so
+ext-swept : (W : World) (s t : State) → Inv W s → Extends W s t → (a b i : ℕ) → Kept W s a b → 0 < i → i ≤ refsAt W a → Swept W s a b i → Swept W t a b i
+ext-swept W s t I E a b i k l h p =
+    let r : Region W s (b + i) = kept-region W s I a b i k (omega (arith, W .shape a (kept-obj W s I a b k))) in
+    rw (E .words (b + i) r) (becomes-map (ext-kept W s t E) _ _ p)
+
 -- ---- an object copied
 
 module _ (W : World) (s : State) (G : Good W s) (x : ℕ) (D : Due W s x) (av : Avail W s (sizeAt W x)) where
@@ -92,6 +103,7 @@ module _ (W : World) (s : State) (G : Good W s) (x : ℕ) (D : Due W s x) (av : 
   record Room (t : State) : Type 0 where
     tiled : Tiled W t
     lined : Lined W t
+    unkept : t .pages .kept ≡ 0
     longer : length (s .pages .queue) ≤ length (t .pages .queue)
     prefix : (j : ℕ) → j < length (s .pages .queue) → at (t .pages .queue) j ≡ at (s .pages .queue) j
     back : (a b : ℕ) → Kept W t a b → Kept W s a b
@@ -101,15 +113,16 @@ module _ (W : World) (s : State) (G : Good W s) (x : ℕ) (D : Due W s x) (av : 
   room = go (leb (s .pages .fill + sizeAt W x) (W .plan .page)) refl
     where
       go : (b : Bool) → leb (s .pages .fill + sizeAt W x) (W .plan .page) ≡ b → Room (onPages s (cond b (s .pages) (takePage (W .plan) (s .pages))))
-      go true e = record { tiled = G .tiled; lined = G .lined; longer = le-refl _; prefix = λ j h. refl; back = λ a b k. k }
+      go true e = record { tiled = G .tiled; lined = G .lined; unkept = av .unkept; longer = le-refl _; prefix = λ j h. refl; back = λ a b k. k }
       go false e =
-          let L = av (leb-false _ _ e) in
+          let L = av .page (leb-false _ _ e) in
           record {
-            tiled = take-tiled W s (G .inv) L (G .filled) (G .tiled);
-            lined = take-lined W s (G .inv) L (G .lined);
+            tiled = take-tiled W s (G .inv) (av .unkept) L (G .filled) (G .tiled);
+            lined = take-lined W s (G .inv) (av .unkept) L (G .lined);
+            unkept = av .unkept;
             longer = rw length-append (omega arith);
             prefix = λ j h. List·getD-append (s .pages .queue) _ 0 j h;
-            back = take-back W s (G .inv) L;
+            back = take-back W s (G .inv) (av .unkept) L;
           }
 
   O : Opened W s (G .inv) x D av t
@@ -128,6 +141,7 @@ module _ (W : World) (s : State) (G : Good W s) (x : ℕ) (D : Due W s x) (av : 
     packs = packs-how W s t′ (G .inv) (G .packs) (copies x D av refl);
     tiled = put-tiled W t x R (room .tiled);
     lined = put-lined W t x R (room .lined);
+    causes = causes-how W s t′ (G .inv) (packs-within W s (G .packs)) (G .causes) (copies x D av refl);
     filled = omega (arith, some-words W x (D .object));
   }
 
@@ -136,27 +150,66 @@ module _ (W : World) (s : State) (G : Good W s) (x : ℕ) (D : Due W s x) (av : 
   copy-grow = record {
     region = E .region;
     kept = ext-kept W s t′ E;
-    swept = swept;
+    swept = ext-swept W s t′ (G .inv) E;
     fresh = λ a b k. fresh a b (kept-split W t x R a b k);
     longer = room .longer;
     prefix = room .prefix;
   }
     where
-      swept : (a b i : ℕ) → Kept W s a b → 0 < i → i ≤ refsAt W a → Swept W s a b i → Swept W t′ a b i
-      swept a b i k l h p =
-          let r : Region W s (b + i) = kept-region W s (G .inv) a b i k (omega (arith, W .shape a (kept-obj W s (G .inv) a b k))) in
-          rw (E .words (b + i) r) (becomes-map (ext-kept W s t′ E) _ _ p)
-
       pg : pageOf W (top (W .plan) (t .pages)) ≡ t .pages .copy
       pg = top-page W t x R
 
       fresh : (a b : ℕ) → Kept W t a b ⊎ ((a ≡ x) × (b ≡ top (W .plan) (t .pages))) → Kept W s a b ⊎ Fresh W s t′ b
       fresh a b (inl k) = inl (room .back a b k)
       fresh a b (inr (ea, eb)) =
-          let (l, len, e) = room .lined .last (omega (arith, some-words W x (D .object), R .room)) in
+          let (l, len, e) = room .lined .last (room .unkept) (omega (arith, some-words W x (D .object), R .room)) in
           inr (record {
             beyond = λ w r q. rw eb (O .ext .region w r .below (q ∙ ap (pageOf W) eb ∙ pg));
             atEnd = (l, omega (arith, room .longer), omega arith, e ∙ sym pg ∙ ap (pageOf W) (sym eb));
+          })
+
+-- ---- its page kept
+
+module _ (W : World) (s : State) (G : Good W s) (x : ℕ) (D : Due W s x) (cant : canCopy (W .plan) (sizeAt W x) (s .pages) ≡ false) where
+  abbrev k′ : State
+  k′ = keeping W s x
+
+  within : s .pages .kept ≤ length (s .pages .queue)
+  within = packs-within W s (G .packs)
+
+  keep-good : Good W k′
+  unfolding keepPage
+  keep-good = record {
+    inv = keep-inv W s (G .inv) x (D .object) (D .old) within;
+    packs = packs-how W s k′ (G .inv) (G .packs) (keeps x D cant refl);
+    tiled = keep-tiled W s (G .inv) x (D .object) (D .old) within (G .tiled);
+    lined = keep-lined W s (G .inv) x (D .object) (D .old) within (G .lined);
+    causes = causes-how W s k′ (G .inv) within (G .causes) (keeps x D cant refl);
+    filled = G .filled;
+  }
+
+  KE : Extends W s k′
+  KE = keep-ext W s (G .inv) x (D .object) (D .old) within
+
+  keep-grow : Grow W s k′
+  unfolding keepPage
+  keep-grow = record {
+    region = KE .region;
+    kept = ext-kept W s k′ KE;
+    swept = ext-swept W s k′ (G .inv) KE;
+    fresh = λ a b k. fresh a b (keep-split W s (G .inv) x (D .object) (D .old) within a b k);
+    longer = rw length-append (omega arith);
+    prefix = λ j h. List·getD-append (s .pages .queue) _ 0 j h;
+  }
+    where
+      -- none of its words was in use so far, and it is the last page of the queue
+      fresh : (a b : ℕ) → Kept W s a b ⊎ Comes W s (G .inv) x (D .object) (D .old) within a b → Kept W s a b ⊎ Fresh W s k′ b
+      fresh a b (inl k) = inl k
+      fresh a b (inr N) =
+          let pg : pageOf W b ≡ pageOf W x = ap (pageOf W) (N .here) ∙ N .page in
+          inr (record {
+            beyond = λ w r q. absurd (W .new≢old (sym (r .label) ∙ ap (at (s .pages .labels)) (q ∙ pg) ∙ D .old));
+            atEnd = (length (s .pages .queue), omega arith, rw length-append (omega arith), getD-append-seam (s .pages .queue) (pageOf W x) [] 0 ∙ sym pg);
           })
 
 -- ---- forwarding, in all
@@ -164,10 +217,12 @@ module _ (W : World) (s : State) (G : Good W s) (x : ℕ) (D : Due W s x) (av : 
 pub how-good : (W : World) (s t : State) → Good W s → How W s t → Good W t
 how-good W s t G (idle e) = subst (Good W) (sym e) G
 how-good W s t G (copies x D av e) = subst (Good W) (sym e) (copy-good W s G x D av)
+how-good W s t G (keeps x D cant e) = subst (Good W) (sym e) (keep-good W s G x D cant)
 
 pub how-grow : (W : World) (s t : State) → Good W s → How W s t → Grow W s t
 how-grow W s t G (idle e) = subst (Grow W s) (sym e) (grow-refl W s)
 how-grow W s t G (copies x D av e) = subst (Grow W s) (sym e) (copy-grow W s G x D av)
+how-grow W s t G (keeps x D cant e) = subst (Grow W s) (sym e) (keep-grow W s G x D cant)
 
 -- a state reached, with the value that v has become; and it was safe to go there
 pub record Went (W : World) (s : State) (v : ℕ) (f : Forwarded) (Safe : Type 0) : Type 0 where
@@ -178,7 +233,7 @@ pub record Went (W : World) (s : State) (v : ℕ) (f : Forwarded) (Safe : Type 0
 
 pub forward-went : (W : World) (s : State) → Good W s → (v : ℕ) → (v ≡ 0) ⊎ (W .Obj v × Reach W s v) → Went W s v (forward (W .plan) v s) (SafeForward (W .plan) v s)
 forward-went W s G v h =
-    let F : Forwards W s v (forward (W .plan) v s) = forward-forwards W s (G .inv) (able W s (G .inv) (G .packs)) v h in
+    let F : Forwards W s v (forward (W .plan) v s) = forward-forwards W s (G .inv) (packs-within W s (G .packs)) v h in
     record {
       safe = forward-safe W s (G .inv) (G .packs) (G .lined .queued) v (either h);
       good = how-good W s _ G (F .how);

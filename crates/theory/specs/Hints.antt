@@ -31,6 +31,7 @@ pub record Unhinted (k : Plan) (b : Pages) : Type 0 where
 pub record Hinting (k : Plan) (b : Pages) (named : List ℕ) (s : Pages) : Type 0 where
   pub copy : s .copy ≡ b .copy
   pub fill : s .fill ≡ b .fill
+  pub kept : s .kept ≡ b .kept
   pub labelsLength : length (s .labels) ≡ length (b .labels)
   pub none : (g : ℕ) → at (b .labels) g ≡ 0 → at (s .labels) g ≡ 0
   pub used : (g : ℕ) → at (b .labels) g ≡ k .old → (at (s .labels) g ≡ k .old) ⊎ (at (s .labels) g ≡ k .new)
@@ -42,6 +43,7 @@ module _ (k : Plan) (b : Pages) (U : Unhinted k b) (named : List ℕ) where
   begun-hinting = record {
     copy = refl;
     fill = refl;
+    kept = refl;
     labelsLength = refl;
     none = λ g e. e;
     used = λ g e. inl e;
@@ -81,10 +83,11 @@ module _ (k : Plan) (b : Pages) (U : Unhinted k b) (named : List ℕ) where
     inside : g < length (s .labels)
     inside = old-inside s g old
 
-    join-hinting : Hinting k b named (record { labels = ls; queue = s .queue ++ (g ∷ []); copy = s .copy; fill = s .fill })
+    join-hinting : Hinting k b named (record { labels = ls; queue = s .queue ++ (g ∷ []); copy = s .copy; fill = s .fill; kept = s .kept })
     join-hinting = record {
       copy = H .copy;
       fill = H .fill;
+      kept = H .kept;
       labelsLength = length-set (s .labels) g (k .new) ∙ H .labelsLength;
       none = λ j e. getD-set-other (s .labels) g j (k .new) 0 (λ q. U .old≢0 (sym (was-old s H g old) ∙ ap (at (b .labels)) (sym q) ∙ e)) ∙ H .none j e;
       used = λ j e. us j e (ℕ-discrete j g);
@@ -109,7 +112,7 @@ module _ (k : Plan) (b : Pages) (U : Unhinted k b) (named : List ℕ) where
   hint-page s H g mem = go (eqb (at (s .labels) g) (k .old)) refl
     where
       go : (t : Bool) → eqb (at (s .labels) g) (k .old) ≡ t
-          → Hinting k b named (cond t (record { labels = set (s .labels) g (k .new); queue = s .queue ++ (g ∷ []); copy = s .copy; fill = s .fill }) s)
+          → Hinting k b named (cond t (record { labels = set (s .labels) g (k .new); queue = s .queue ++ (g ∷ []); copy = s .copy; fill = s .fill; kept = s .kept }) s)
       go true e = join-hinting s H g (eqb-true _ _ e) mem
       go false e = H
 
@@ -125,7 +128,7 @@ module _ (k : Plan) (b : Pages) (U : Unhinted k b) (named : List ℕ) where
   page-keeps s j g e = go (eqb (at (s .labels) j) (k .old)) refl (ℕ-discrete g j)
     where
       go : (t : Bool) → eqb (at (s .labels) j) (k .old) ≡ t → Dec (g ≡ j)
-          → at (cond t (record { labels = set (s .labels) j (k .new); queue = s .queue ++ (j ∷ []); copy = s .copy; fill = s .fill }) s .labels) g ≡ k .new
+          → at (cond t (record { labels = set (s .labels) j (k .new); queue = s .queue ++ (j ∷ []); copy = s .copy; fill = s .fill; kept = s .kept }) s .labels) g ≡ k .new
       go false q d = e
       go true q (no n) = getD-set-other (s .labels) j g (k .new) 0 n ∙ e
       go true q (yes y) = absurd (U .new≢old (sym e ∙ ap (at (s .labels)) y ∙ eqb-true _ _ q))
@@ -140,7 +143,7 @@ module _ (k : Plan) (b : Pages) (U : Unhinted k b) (named : List ℕ) where
   page-gets s H g us = go (eqb (at (s .labels) g) (k .old)) refl (H .used g us)
     where
       go : (t : Bool) → eqb (at (s .labels) g) (k .old) ≡ t → (at (s .labels) g ≡ k .old) ⊎ (at (s .labels) g ≡ k .new)
-          → at (cond t (record { labels = set (s .labels) g (k .new); queue = s .queue ++ (g ∷ []); copy = s .copy; fill = s .fill }) s .labels) g ≡ k .new
+          → at (cond t (record { labels = set (s .labels) g (k .new); queue = s .queue ++ (g ∷ []); copy = s .copy; fill = s .fill; kept = s .kept }) s .labels) g ≡ k .new
       go true q d = getD-set-same (s .labels) g (k .new) 0 (old-inside s g (eqb-true _ _ q))
       go false q (inl e) = absurd (eqb-false _ _ q e)
       go false q (inr e) = e

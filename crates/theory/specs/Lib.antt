@@ -2,21 +2,28 @@
 pub mod Sums
 pub mod Packing
 pub mod Queue
+pub mod KeptPages
 -- the invariant, and each step that keeps it
 pub mod World
 pub mod Places
 pub mod Put
 pub mod Take
+pub mod Keep
 pub mod Forward
 pub mod Packs
 pub mod ForwardSafe
+pub mod Causes
 pub mod Store
 pub mod Tile
 pub mod Good
--- the sweep
+-- the sweep, and the fillers
+pub mod Cursor
 pub mod SweepReferences
 pub mod SweepPage
 pub mod SweepQueue
+pub mod Fillers
+pub mod FillPage
+pub mod FillPages
 -- from the tests of collect to the first state, and from the last one to what is lent after
 pub mod Hints
 pub mod Accept

@@ -1,27 +1,29 @@
--- A free page is there whenever a copy needs one: the words copied are among those of the objects on pages that no hint names,
--- and the pages taken are no more than those words may need.
+-- The words copied are among those of the objects on pages that no hint names, and the pages taken are no more than those words may
+-- need. So where as many are free, no page is kept for want of room.
 use mathlib.Core.Path.{_≡_, refl, sym, ap, _∙_, subst}
 use mathlib.Core.Logic.{_⊎_, inl, inr}
 use mathlib.Core.Bool.{Bool, true, false, cond}
 use mathlib.Core.List.{List, [], _∷_, _++_, List·Memᴰ, List·Memᴰ·head, List·Memᴰ·tail, List·Memᴰ·cases-cons, List·Memᴰ·append-cases, List·Memᴰ·eq-of-singleton, List·Memᴰ·not-nil, Memᴰ·cast}
 use Prim.Native.Nat.{ℕ, _+_, _*_, _≤_, _<_}
 use native.Mathlib.Nat.{add-zero, zero-add}
+use native.Mathlib.Decide.{ℕ-discrete}
 use native.Mathlib.Omega.{arith}
 use lib.Dec.{leb}
-use lib.ListN.{length, length-append}
+use lib.ListN.{length, set, length-append}
 use borrow.Author.Tests.{leb-true, leb-false}
 use Rattle.rules.specs.Ranges.{at, sum}
-use Rattle.rules.specs.Pages.{pagesNeeded}
-use Rattle.rules.specs.Collection.{Move, State, put, takePage, withRoom}
+use Rattle.rules.specs.Pages.{isFree, pagesNeeded}
+use Rattle.rules.specs.Collection.{Move, State, onPages, put, takePage, withRoom, canCopy, keepPage}
 use Rattle.laws.specs.Walk.{size}
-use Rattle.laws.specs.FreePages.{freePages, lowest, free-less}
+use Rattle.laws.specs.FreePages.{Lowest, freePages, lowest, free-is, not-free, free-less, free-same}
 use Rattle.theory.specs.Sums.{sum-snoc, Distinct, distinct-snoc, sub-sum}
 use Rattle.theory.specs.Packing.{Packed, packed-same, packed-new, packed-enough}
-use Rattle.theory.specs.World.{sizeAt, World, NotGone, Inv}
+use Rattle.theory.specs.World.{pageOf, sizeAt, World, NotGone, Inv}
 use Rattle.theory.specs.Places.{some-words, old-before}
 use Rattle.theory.specs.Put.{put-moves}
-use Rattle.theory.specs.Take.{onPages, page-inside}
-use Rattle.theory.specs.Forward.{Due, Able, How, idle, copies, copied}
+use Rattle.theory.specs.Take.{page-inside}
+use Rattle.theory.specs.Keep.{free-up, free-else}
+use Rattle.theory.specs.Forward.{Due, Avail, cannot-says, Within, How, idle, copies, keeps, copied, keeping}
 
 -- ---- the objects that were copied
 
@@ -50,20 +52,26 @@ wordsOf W s = sum (size (W .heap)) (froms (s .moves))
 abbrev pub wordsOld : World → ℕ
 wordsOld W = sum (size (W .heap)) (W .olds)
 
--- free pages of the block
+-- free pages of the block; at first as many as all those words may need
 abbrev pub freeIn : World → List ℕ → ℕ
 freeIn W labels = freePages labels (W .plan .lo) (W .plan .hi)
 
+abbrev pub Enough : World → Type 0
+Enough W = pagesNeeded (W .plan .page) (wordsOld W) ≤ freeIn W (W .labels)
+
 pub record Packs (W : World) (s : State) : Type 0 where
   pub taken : ℕ
-  pub joined : length (s .pages .queue) ≡ W .hinted + taken
+  -- the queue: hinted pages, those taken, those kept
+  pub joined : length (s .pages .queue) ≡ W .hinted + taken + s .pages .kept
   pub left : freeIn W (s .pages .labels) + taken ≡ freeIn W (W .labels)
+  pub unkept : Enough W → s .pages .kept ≡ 0
   pub distinct : Distinct (froms (s .moves))
   pub packed : Packed (W .plan .page) taken (s .pages .fill) (wordsOf W s)
   pub words : s .words ≡ wordsOf W s
   pub objects : s .objects ≤ s .words
-  -- there is room for all
-  pub room : pagesNeeded (W .plan .page) (wordsOld W) ≤ freeIn W (W .labels)
+
+pub packs-within : (W : World) (s : State) → Packs W s → Within s
+packs-within W s K = omega (arith, K .joined)
 
 -- ---- how many
 
@@ -102,20 +110,23 @@ module _ (W : World) (s : State) (I : Inv W s) (K : Packs W s) where
             go (inl a) = copied-old z a
             go (inr b) = Memᴰ·cast (List·Memᴰ·eq-of-singleton b) (W .all x (D .object) (old-before W s I x (D .object) (D .old)))
 
-    -- words that do not fit find a free page
-    pub some-free : W .plan .page < s .pages .fill + sizeAt W x → 0 < freeIn W (s .pages .labels)
-    some-free lt =
+    -- words that do not fit find a free page, where there are enough
+    some-free : Enough W → W .plan .page < s .pages .fill + sizeAt W x → 0 < freeIn W (s .pages .labels)
+    some-free enough lt =
         let b : K .taken + 1 ≤ pagesNeeded (W .plan .page) (wordsOld W) =
         packed-enough (wordsOld W) words-left (some-words W x (D .object)) (packed-new (sizeAt W x) lt (K .packed)) in
-        omega (arith, K .room, K .left)
+        omega (arith, K .left)
 
-  pub able : Able W s
-  unfolding Able
-  able x D lt = lowest (s .pages .labels) (W .plan .lo) (W .plan .hi) (some-free x D lt)
+    -- so no page is kept
+    none-kept : Enough W → canCopy (W .plan) (sizeAt W x) (s .pages) ≡ false → ⊥
+    none-kept enough cant =
+        let (lt, full) = cannot-says W s (sizeAt W x) (K .unkept enough) cant in
+        let L : Lowest (s .pages .labels) (W .plan .lo) (W .plan .hi) = lowest _ _ _ (some-free enough lt) in
+        omega (arith, L .high)
 
   -- ---- an object copied
 
-  module _ (x : ℕ) (D : Due W s x) where
+  module _ (x : ℕ) (D : Due W s x) (av : Avail W s (sizeAt W x)) where
     module _ (l : List Move) (y : ℕ) (is : l ≡ s .moves ++ ((record { from = x; to = y }) ∷ [])) where
       froms-are : froms l ≡ froms (s .moves) ++ (x ∷ [])
       froms-are = ap froms is ∙ froms-snoc (s .moves) (record { from = x; to = y })
@@ -140,26 +151,26 @@ module _ (W : World) (s : State) (I : Inv W s) (K : Packs W s) where
               taken = K .taken;
               joined = K .joined;
               left = K .left;
+              unkept = K .unkept;
               distinct = distinct′ _ _ is;
               packed = subst (Packed (W .plan .page) (K .taken) (s .pages .fill + n)) (sym (weight _ _ is)) (packed-same n (K .packed));
               words = sym (weight _ _ is ∙ ap (λ (k : ℕ). k + n) (sym (K .words)));
               objects = omega (arith, K .objects, some-words W x (D .object));
-              room = K .room;
             }
 
         other : W .plan .page < s .pages .fill + n → Packs W (put (W .plan) n x (takePage (W .plan) (s .pages)) s)
         other lt =
-            let L = lowest (s .pages .labels) (W .plan .lo) (W .plan .hi) (some-free x D lt) in
+            let L = av .page lt in
             let is = put-moves W n x (takePage (W .plan) (s .pages)) s in
             record {
               taken = K .taken + 1;
               joined = length-append (s .pages .queue) _ ∙ omega (arith, K .joined);
-              left = omega (arith, free-less (s .pages .labels) (W .plan .lo) (W .plan .hi) _ (W .plan .new) (L .low) (L .high) (page-inside W s I L) (L .free) (W .new≢0), K .left);
+              left = omega (arith, free-less (s .pages .labels) (W .plan .lo) (W .plan .hi) _ (W .plan .new) (L .low) (L .high) (page-inside W s I (av .unkept) L) (L .free) (W .new≢0), K .left);
+              unkept = K .unkept;
               distinct = distinct′ _ _ is;
               packed = subst (Packed (W .plan .page) (K .taken + 1) (0 + n)) (sym (weight _ _ is)) (rw zero-add (packed-new n lt (K .packed)));
               words = sym (weight _ _ is ∙ ap (λ (k : ℕ). k + n) (sym (K .words)));
               objects = omega (arith, K .objects, some-words W x (D .object));
-              room = K .room;
             }
 
         go : (b : Bool) → leb (s .pages .fill + sizeAt W x) (W .plan .page) ≡ b
@@ -167,6 +178,32 @@ module _ (W : World) (s : State) (I : Inv W s) (K : Packs W s) where
         go true e = same (leb-true _ _ e)
         go false e = other (leb-false _ _ e)
 
+-- ---- a page kept: nothing is copied
+
+keep-packs : (W : World) (s : State) → Inv W s → Packs W s → (x : ℕ) → Due W s x → canCopy (W .plan) (sizeAt W x) (s .pages) ≡ false → Packs W (keeping W s x)
+unfolding keepPage
+keep-packs W s I K x D cant = record {
+  taken = K .taken;
+  joined = length-append (s .pages .queue) _ ∙ omega (arith, K .joined);
+  left = ap (λ (n : ℕ). n + K .taken) (free-same _ (s .pages .labels) (W .plan .lo) (W .plan .hi) same) ∙ K .left;
+  unkept = λ enough. absurd (none-kept W s I K x D enough cant);
+  distinct = K .distinct;
+  packed = K .packed;
+  words = K .words;
+  objects = K .objects;
+}
+  where
+    same : (g : ℕ) → isFree (set (s .pages .labels) (pageOf W x) (W .plan .new)) g ≡ isFree (s .pages .labels) g
+    same g = go (ℕ-discrete (at (s .pages .labels) g) 0)
+      where
+        within : s .pages .kept ≤ length (s .pages .queue)
+        within = packs-within W s K
+
+        go : Dec (at (s .pages .labels) g ≡ 0) → isFree (set (s .pages .labels) (pageOf W x) (W .plan .new)) g ≡ isFree (s .pages .labels) g
+        go (yes e) = free-is _ g (free-up W s I x (D .object) (D .old) within g e) ∙ sym (free-is _ g e)
+        go (no n) = not-free _ g (λ e. n (free-else W s I x (D .object) (D .old) within g e)) ∙ sym (not-free _ g n)
+
 pub packs-how : (W : World) (s t : State) → Inv W s → Packs W s → How W s t → Packs W t
 packs-how W s t I K (idle e) = subst (Packs W) (sym e) K
-packs-how W s t I K (copies x D av e) = subst (Packs W) (sym e) (copy-packs W s I K x D)
+packs-how W s t I K (copies x D av e) = subst (Packs W) (sym e) (copy-packs W s I K x D av)
+packs-how W s t I K (keeps x D cant e) = subst (Packs W) (sym e) (keep-packs W s I K x D cant)

@@ -1,34 +1,40 @@
 -- The pairing of an accepted collection: each object that was reached with where it stands now. It is faithful, and nothing
--- else remains.
+-- else remains but the fillers.
 use mathlib.Core.Path.{_≡_, refl, sym, ap, _∙_, subst}
 use mathlib.Core.Logic.{_≢_, _⊎_, inl, inr}
-use mathlib.Core.List.{List, [], List·Memᴰ}
+use mathlib.Core.List.{List, List·Memᴰ, Memᴰ·cast}
 use Prim.Native.Nat.{ℕ, suc, _+_, _*_, _-_, _/_, _≤_, _<_}
 use native.Mathlib.Omega.{arith}
-use lib.ListN.{length}
+use lib.ListN.{length, take}
 use Rattle.rules.specs.Ranges.{at}
 use Rattle.rules.specs.Header.{sizeOf, refsOf}
 use Rattle.rules.specs.Pages.{otherLabel}
 use Rattle.rules.specs.Lent.{Lent}
 use Rattle.rules.specs.Sound.{InUse, IsObject, refs, payload, Sound}
-use Rattle.rules.specs.Collection.{logged, Move, State, planOf, collection}
+use Rattle.rules.specs.Collection.{logged, Move, State, Collection, planOf, keptPages, collection}
 use Rattle.rules.specs.Collect.{CollectOutcome, acceptedCollect}
-use Rattle.rules.specs.Demands.{Hinted, Reached, onHinted, byRoot, byReference, Becomes, Faithful}
+use Rattle.rules.specs.Demands.{Hinted, Reached, staying, byRoot, byReference, Becomes, Paired, HoldsCopy, OnHintedOrKept, Keeps, Fills, Faithful}
 use Rattle.laws.specs.Walk.{size}
 use Rattle.laws.specs.Pages.{first-on-page}
 use Rattle.theory.specs.Sums.{mem-at}
-use Rattle.theory.specs.World.{becomes-map, World, Live, root, stay, ref, Stays, Kept, stayed, went, Place, home, away}
-use Rattle.theory.specs.Places.{SameOrApart, hinted-label, kept-obj, kept-apart}
+use Rattle.theory.specs.KeptPages.{kept-length, kept-once}
+use Rattle.theory.specs.World.{becomes-map, World, Live, root, stay, ref, Gone, NotGone, Stays, Kept, stayed, went, Place, home, away, KeptPage}
+use Rattle.theory.specs.Places.{SameOrApart, some-words, Standing, there, left, gone-or-not, hinted-label, old-new-kept, kept-obj, kept-apart, kept-from}
+use Rattle.theory.specs.Packs.{packs-within}
+use Rattle.theory.specs.Causes.{StaysBy}
 use Rattle.theory.specs.Good.{kept-reach}
+use Rattle.theory.specs.Fillers.{filler-size, filler-refs}
 use Rattle.theory.specs.Accept.{Accepted}
-use Rattle.theory.specs.SoundHeap.{other≢label, object-nonzero}
+use Rattle.theory.specs.SoundHeap.{other≢label, in-use, object-nonzero}
 use Rattle.laws.specs.Objects.{page-pos}
 use Rattle.laws.specs.Valid.{label-pos}
-use Rattle.theory.specs.FirstState.{world, hinted-new, new-hinted, used-kind}
+use Rattle.theory.specs.FirstState.{world, hinted-new, new-hinted, used-kind, free-stays}
 use Rattle.theory.specs.Run.{W as worldOf, r as rootedOf, t as sweptOf, roots-done, all-done}
-use Rattle.theory.specs.After.{m′ as lentOf, inv, first-place, kept-object, object-kept, kept-word, kept-header, kept-reference, in-use-new}
+use Rattle.theory.specs.After.{m′ as lentOf, inv, F as filledOf, first-place, kept-object, object-standing, left-object, left-header, left-zeros, kept-word, kept-header, kept-reference, new-in-use, in-use-new}
+use Rattle.theory.specs.Plainly.{unlogged}
+use Rattle.theory.specs.Taken.{free-taken}
 
-module _ (m : Lent) (roots hints : List ℕ) (A : Accepted m roots hints) where
+module _ (m : Lent) (roots hints : List ℕ) (A : Accepted m roots) where
   abbrev S : Sound m
   S = A .sound
 
@@ -45,21 +51,20 @@ module _ (m : Lent) (roots hints : List ℕ) (A : Accepted m roots hints) where
   new = otherLabel (m .rec .label)
 
   -- what the collection leaves; the moves play no part in it
+  abbrev pub told : Collection
+  told = unlogged (collection logged m roots hints)
+
   abbrev pub outcome : CollectOutcome
-  outcome = acceptedCollect (record {
-    lent = collection logged m roots hints .lent;
-    roots = collection logged m roots hints .roots;
-    hinted = collection logged m roots hints .hinted;
-    taken = collection logged m roots hints .taken;
-    objects = collection logged m roots hints .objects;
-    words = collection logged m roots hints .words;
-    moves = [];
-  })
+  outcome = acceptedCollect told
+
+  -- the pages kept
+  abbrev kept : List ℕ
+  kept = keptPages (sweptOf m roots hints A .pages)
 
   abbrev pub Pairs : ℕ → ℕ → Type 0
   Pairs = Kept (worldOf m roots hints A) (sweptOf m roots hints A)
 
-  -- ---- what stays is what is on hinted pages
+  -- ---- what stays is what is on hinted pages, and what is uncopied on those kept
 
   moved-unhinted : (j : Move) → List·Memᴰ j (s .moves) → Hinted m hints (j .from / m .rec .page) → ⊥
   unfolding world planOf
@@ -73,13 +78,26 @@ module _ (m : Lent) (roots hints : List ℕ) (A : Accepted m roots hints) where
     notGone = λ j mem z. moved-unhinted j mem (subst (λ (w : ℕ). Hinted m hints (w / m .rec .page)) (sym z) h);
   }
 
-  new-page-hinted : (x : ℕ) → IsObject m x → at (s .pages .labels) (x / m .rec .page) ≡ new → Hinted m hints (x / m .rec .page)
+  kept-was-used : (g : ℕ) → KeptPage W s g → InUse m g
   unfolding world planOf
-  new-page-hinted x ob e = go (used-kind m roots hints A (x / m .rec .page) (ob .inUse .label))
+  kept-was-used g k = go (S .labels g)
     where
-      go : (at (W .labels) (x / m .rec .page) ≡ m .rec .label) ⊎ (at (W .labels) (x / m .rec .page) ≡ new) → Hinted m hints (x / m .rec .page)
-      go (inl q) = absurd (other≢label m S (sym e ∙ inv m roots hints A .used (x / m .rec .page) (λ z. label-pos m (S .valid) (sym q ∙ z)) ∙ q))
-      go (inr q) = new-hinted m roots hints A (x / m .rec .page) q
+      go : (at (m .labels) g ≡ 0) ⊎ (at (m .labels) g ≡ m .rec .label) → InUse m g
+      go (inl e) = absurd (label-pos m (S .valid) (sym (k .old) ∙ free-stays m roots hints A g e))
+      go (inr e) = in-use m S g e
+
+  kept-unhinted : (g : ℕ) → KeptPage W s g → Hinted m hints g → ⊥
+  unfolding world planOf
+  kept-unhinted g k h = other≢label m S (sym (hinted-new m roots hints A g h) ∙ k .old)
+
+  -- a page that was in use and has the new label was hinted, or is kept
+  new-page : (g : ℕ) → InUse m g → at (s .pages .labels) g ≡ new → Hinted m hints g ⊎ KeptPage W s g
+  unfolding world planOf
+  new-page g u e = go (used-kind m roots hints A g (u .label))
+    where
+      go : (at (W .labels) g ≡ m .rec .label) ⊎ (at (W .labels) g ≡ new) → Hinted m hints g ⊎ KeptPage W s g
+      go (inl q) = inr (old-new-kept W s (inv m roots hints A) g q e)
+      go (inr q) = inl (new-hinted m roots hints A g q)
 
   hinted-same : (x y : ℕ) → Pairs x y → Hinted m hints (x / m .rec .page) → y ≡ x
   hinted-same x y (stayed q e) h = e
@@ -94,22 +112,39 @@ module _ (m : Lent) (roots hints : List ℕ) (A : Accepted m roots hints) where
   root-becomes : (j : ℕ) → j < length roots → Becomes Pairs (at roots j) (at (rootedOf m roots hints A .roots) j)
   root-becomes j h = becomes-map (all-done m roots hints A .grow .kept) _ _ (roots-done m roots hints A .becomes j h)
 
-  reached : {x : ℕ} → Reached m roots hints x → (y : ℕ) × Pairs x y
-  reached (onHinted {x = x} ob h) = (x, stayed (hinted-stays x ob h) refl)
+  reached : {x : ℕ} → Reached m roots (OnHintedOrKept m hints kept Pairs) x → (y : ℕ) × Pairs x y
+  reached (staying {x = x} ob (inl h)) = (x, stayed (hinted-stays x ob h) refl)
+  reached (staying {x = x} ob (inr q)) = (x, q .stayed)
   reached (byRoot {x = x} ob mem) = let (j, lt, e) = mem-at roots x mem in paired x (at roots j) _ (sym e) (object-nonzero m S x ob) (root-becomes j lt)
   reached (byReference {x = x} z i lv h e ob) = let (y, K) = reached lv in paired x (payload m z i) _ e (object-nonzero m S x ob) (kept-reference m roots hints A z y i K h)
 
-  live-reached : {x : ℕ} → Live (m .heap) (IsObject m) (λ x. IsObject m x × List·Memᴰ x roots) (Stays W s) x → Reached m roots hints x
-  unfolding world planOf
-  live-reached (root (ob, mem)) = byRoot ob mem
-  live-reached (stay {x = x} q) = onHinted (q .object) (new-page-hinted x (q .object) (q .label))
-  live-reached (ref z i lv low high e ob) =
+  live-reached : {Stay Stay′ : ℕ → Type 0} → ((x : ℕ) → Stay x → IsObject m x × Stay′ x)
+      → {x : ℕ} → Live (m .heap) (IsObject m) (λ x. IsObject m x × List·Memᴰ x roots) Stay x → Reached m roots Stay′ x
+  live-reached f (root (ob, mem)) = byRoot ob mem
+  live-reached f (stay {x = x} q) = let (ob, z) = f x q in staying ob z
+  live-reached f (ref z i lv low high e ob) =
       let q : z + i ≡ z + 1 + (i - 1) = omega arith in
-      byReference z (i - 1) (live-reached lv) (omega arith) (e ∙ ap (at (m .heap)) q) ob
+      byReference z (i - 1) (live-reached f lv) (omega arith) (e ∙ ap (at (m .heap)) q) ob
 
-  pair-reached : (x y : ℕ) → Pairs x y → Reached m roots hints x
+  stays-where : (x : ℕ) → Stays W s x → IsObject m x × OnHintedOrKept m hints kept Pairs x
+  unfolding world planOf
+  stays-where x q = (q .object, go (new-page (x / m .rec .page) (q .object .inUse) (q .label)))
+    where
+      go : Hinted m hints (x / m .rec .page) ⊎ KeptPage W s (x / m .rec .page) → OnHintedOrKept m hints kept Pairs x
+      go (inl h) = inl h
+      go (inr k) = inr (record { page = k .listed; stayed = stayed q refl })
+
+  stays-by : (i x : ℕ) → StaysBy W s i x → IsObject m x × OnHintedOrKept m hints (take i kept) Pairs x
+  unfolding world planOf
+  stays-by i x q = (q .stays .object, go (q .page))
+    where
+      go : (at (W .labels) (x / m .rec .page) ≡ new) ⊎ List·Memᴰ (x / m .rec .page) (take i kept) → OnHintedOrKept m hints (take i kept) Pairs x
+      go (inl e) = inl (new-hinted m roots hints A (x / m .rec .page) e)
+      go (inr k) = inr (record { page = k; stayed = stayed (q .stays) refl })
+
+  pair-reached : (x y : ℕ) → Pairs x y → Reached m roots (OnHintedOrKept m hints kept Pairs) x
   unfolding world
-  pair-reached x y K = live-reached (kept-reach W s (inv m roots hints A) x y K)
+  pair-reached x y K = live-reached stays-where (kept-reach W s (inv m roots hints A) x y K)
 
   -- ---- one to one
 
@@ -131,7 +166,12 @@ module _ (m : Lent) (roots hints : List ℕ) (A : Accepted m roots hints) where
 
   -- ---- pages in use after
 
-  pages : (g : ℕ) → InUse m′ g → Hinted m hints g ⊎ ((x : ℕ) × (y : ℕ) × Pairs x y × (y / m .rec .page ≡ g) × (Hinted m hints (x / m .rec .page) → ⊥))
+  moved-elsewhere : (j : Move) → List·Memᴰ j (s .moves) → j .to ≢ j .from
+  unfolding world planOf
+  moved-elsewhere j mem q =
+      label-pos m (S .valid) (sym (inv m roots hints A .moved j mem .old) ∙ ap (λ (a : ℕ). at (W .labels) (a / m .rec .page)) (sym q) ∙ inv m roots hints A .moved j mem .fresh)
+
+  pages : (g : ℕ) → InUse m′ g → Hinted m hints g ⊎ (HoldsCopy m Pairs g ⊎ List·Memᴰ g kept)
   unfolding world
   pages g u = go (first-place m roots hints A g e .0) (first-place m roots hints A g e .1)
     where
@@ -141,11 +181,89 @@ module _ (m : Lent) (roots hints : List ℕ) (A : Accepted m roots hints) where
       pg : g * m .rec .page / m .rec .page ≡ g
       pg = first-on-page (page-pos m (S .valid)) g
 
-      go : (x : ℕ) → Place W s x (g * m .rec .page) → Hinted m hints g ⊎ ((x : ℕ) × (y : ℕ) × Pairs x y × (y / m .rec .page ≡ g) × (Hinted m hints (x / m .rec .page) → ⊥))
+      was : Hinted m hints g ⊎ KeptPage W s g → Hinted m hints g ⊎ (HoldsCopy m Pairs g ⊎ List·Memᴰ g kept)
+      was (inl h) = inl h
+      was (inr k) = inr (inr (k .listed))
+
+      go : (x : ℕ) → Place W s x (g * m .rec .page) → Hinted m hints g ⊎ (HoldsCopy m Pairs g ⊎ List·Memᴰ g kept)
       go x (home ob q) =
           let z : x / m .rec .page ≡ g = ap (λ (k : ℕ). k / m .rec .page) (sym q) ∙ pg in
-          inl (subst (Hinted m hints) z (new-page-hinted x ob (ap (at (s .pages .labels)) z ∙ e)))
-      go x (away j mem ex ey) = inr (j .from, j .to, went j mem refl refl, ap (λ (k : ℕ). k / m .rec .page) (sym ey) ∙ pg, moved-unhinted j mem)
+          was (new-page g (subst (InUse m) z (ob .inUse)) e)
+      go x (away j mem ex ey) =
+          inr (inl (record { from = j .from; to = j .to; pair = went j mem refl refl; there = ap (λ (k : ℕ). k / m .rec .page) (sym ey) ∙ pg; copied = moved-elsewhere j mem }))
+
+  -- ---- kept pages, and what was copied out of them
+
+  within : s .pages .kept ≤ length (s .pages .queue)
+  within = packs-within W s (all-done m roots hints A .good .packs)
+
+  left-label : (j : Move) → List·Memᴰ (j .from / m .rec .page) kept → at (s .pages .labels) (j .from / m .rec .page) ≡ new
+  unfolding world planOf
+  left-label j k = inv m roots hints A .kept (j .from / m .rec .page) k .label
+
+  -- the object of a kept page that was copied leaves a filler
+  left-filler : (x y : ℕ) → List·Memᴰ (x / m .rec .page) kept → (j : Move) → List·Memᴰ j (s .moves) → x ≡ j .from → List·Memᴰ x (told .fillers)
+  unfolding world planOf collection
+  left-filler x y k j mem e = Memᴰ·cast e (filledOf m roots hints A .all j mem (subst (λ (a : ℕ). List·Memᴰ (a / m .rec .page) kept) e k))
+
+  keeps : Keeps m roots hints outcome told Pairs
+  unfolding world planOf collection acceptedCollect
+  keeps = record {
+    used = λ g k. kept-was-used g (inv m roots hints A .kept g k);
+    unhinted = λ g k. kept-unhinted g (inv m roots hints A .kept g k);
+    inUse = λ g k. new-in-use m roots hints A g (inv m roots hints A .kept g k .label);
+    all = λ x ob k. all x ob k (gone-or-not W s x);
+    holds = λ i h. let c = all-done m roots hints A .good .causes .each i h in (c .from, c .page, live-reached (stays-by i) (c .reached));
+    full = λ g h k. free-taken m roots hints A (some h k) g;
+    once = kept-once (s .pages) within (all-done m roots hints A .good .lined .queued .once);
+    count = refl;
+  }
+    where
+      all : (x : ℕ) → IsObject m x → List·Memᴰ (x / m .rec .page) kept → Gone s x ⊎ NotGone s x → Pairs x x ⊎ List·Memᴰ x (told .fillers)
+      all x ob k (inl (j, mem, e)) = inr (left-filler x x k j mem e)
+      all x ob k (inr n) = inl (stayed (record { object = ob; label = inv m roots hints A .kept _ k .label; notGone = n }) refl)
+
+      some : (h : ℕ) → List·Memᴰ h kept → 0 < s .pages .kept
+      some h k = let (i, lt, e) = mem-at kept h k in omega (arith, kept-length (s .pages) within)
+
+  fills : Fills m outcome told Pairs
+  unfolding world planOf collection acceptedCollect
+  fills = record {
+    left = λ y k. let (j, mem, e, pg) = filledOf m roots hints A .left y k in
+        (subst (IsObject m) (sym e) (inv m roots hints A .moved j mem .object), pg, (j .to, went j mem e refl, λ q. moved-elsewhere j mem (q ∙ e)));
+    all = λ y z k P n. copied y z k P n;
+    object = λ y k. let (j, mem, e, l) = place y k in subst (IsObject m′) (sym e) (left-object m roots hints A j mem l);
+    unpaired = λ x y k P. unpaired x y k P (filledOf m roots hints A .left y k);
+    sizes = λ y k. let (j, mem, e, l) = place y k in
+        rw e (ap sizeOf (left-header m roots hints A j mem l) ∙ filler-size (size (m .heap) (j .from)) (some-words W (j .from) (inv m roots hints A .moved j mem .object)));
+    counts = λ y k. let (j, mem, e, l) = place y k in rw e (ap refsOf (left-header m roots hints A j mem l) ∙ filler-refs (size (m .heap) (j .from)));
+    zeros = λ y i k h. let (j, mem, e, l) = place y k in zeros y i j mem e l h;
+    once = filledOf m roots hints A .once;
+    count = refl;
+  }
+    where
+      -- the move that left it, and the label of its page
+      place : (y : ℕ) → List·Memᴰ y (told .fillers) → (j : Move) × List·Memᴰ j (s .moves) × (y ≡ j .from) × (at (s .pages .labels) (j .from / m .rec .page) ≡ new)
+      place y k =
+          let (j, mem, e, pg) = filledOf m roots hints A .left y k in
+          (j, mem, e, left-label j (subst (λ (a : ℕ). List·Memᴰ (a / m .rec .page) kept) e pg))
+
+      copied : (y z : ℕ) → List·Memᴰ (y / m .rec .page) kept → Pairs y z → z ≢ y → List·Memᴰ y (told .fillers)
+      copied y z k (stayed q e) n = absurd (n e)
+      copied y z k (went j mem ey ez) n = left-filler y z k j mem ey
+
+      unpaired : (x y : ℕ) → List·Memᴰ y (told .fillers) → Pairs x y → (j : Move) × List·Memᴰ j (s .moves) × (y ≡ j .from) × List·Memᴰ (y / m .rec .page) kept → ⊥
+      unpaired x y k P (j, mem, e, pg) = go (kept-from W s (inv m roots hints A) x y P j mem)
+        where
+          go : (y + size (m .heap) x ≤ j .from) ⊎ (j .from + size (m .heap) (j .from) ≤ y) → ⊥
+          go (inl h) = omega (arith, some-words W x (kept-obj W s (inv m roots hints A) x y P))
+          go (inr h) = omega (arith, some-words W (j .from) (inv m roots hints A .moved j mem .object))
+
+      zeros : (y i : ℕ) (j : Move) → List·Memᴰ j (s .moves) → y ≡ j .from → at (s .pages .labels) (j .from / m .rec .page) ≡ new → i + 1 < sizeOf (at (m .heap) y) → payload m′ y i ≡ 0
+      zeros y i j mem e l h =
+          let q : j .from + suc i ≡ j .from + 1 + i = omega arith in
+          let lt : suc i < size (m .heap) (j .from) = rw e at (let z : suc i < size (m .heap) y = omega arith in z) in
+          ap (λ (a : ℕ). payload m′ a i) e ∙ (rw q at (left-zeros m roots hints A j mem l (suc i) (omega arith) lt))
 
   -- ---- the whole
 
@@ -158,9 +276,9 @@ module _ (m : Lent) (roots hints : List ℕ) (A : Accepted m roots hints) where
       kept-word m roots hints A x y (suc i) K (omega arith) ∙ inv m roots hints A .dataWords x y (suc i) K (omega arith) (omega arith) in
       rw (ea, eb) at w
 
-  pub faithful : Faithful m roots hints outcome Pairs
+  paired-all : Paired m roots (OnHintedOrKept m hints kept Pairs) outcome Pairs
   unfolding acceptedCollect collection
-  faithful = record {
+  paired-all = record {
     reached = λ x lv. reached lv;
     only = pair-reached;
     object = kept-object m roots hints A;
@@ -172,7 +290,20 @@ module _ (m : Lent) (roots hints : List ℕ) (A : Accepted m roots hints) where
     references = kept-reference m roots hints A;
     rootCells = roots-done m roots hints A .cells;
     rootsAgree = root-becomes;
-    nothing = object-kept m roots hints A;
-    stays = hinted-same;
-    pages = pages;
   }
+
+  -- an object afterwards is paired, or a filler
+  object-told : (y : ℕ) → IsObject m′ y → ((x : ℕ) × Pairs x y) ⊎ List·Memᴰ y (told .fillers)
+  unfolding world planOf collection
+  object-told y ob = let (x, K) = object-standing m roots hints A y ob in go x K
+    where
+      go : (x : ℕ) → Standing W s x y → ((x : ℕ) × Pairs x y) ⊎ List·Memᴰ y (told .fillers)
+      go x (there K) = inl (x, K)
+      go x (left j mem ex ey) = inr (left-filler y y (old-new-kept W s (inv m roots hints A) (y / m .rec .page) old (in-use-new m roots hints A _ (ob .inUse)) .listed) j mem (ey ∙ ex))
+        where
+          old : at (W .labels) (y / m .rec .page) ≡ m .rec .label
+          old = ap (λ (a : ℕ). at (W .labels) (a / m .rec .page)) (ey ∙ ex) ∙ inv m roots hints A .moved j mem .old
+
+  pub faithful : Faithful m roots hints outcome told Pairs
+  unfolding acceptedCollect collection
+  faithful = record { paired = paired-all; nothing = object-told; stays = hinted-same; pages = pages; keeps = keeps; fills = fills }

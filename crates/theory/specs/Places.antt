@@ -1,22 +1,31 @@
 -- What the invariant tells of labels and of places: each place fits its page, no two places meet, and a place on a page with the
--- new label is a retained object.
+-- new label is a retained object, or what one left that was copied out of a kept page.
 use mathlib.Core.Path.{_≡_, refl, sym, ap, _∙_, subst}
 use mathlib.Core.Logic.{_≢_, _⊎_, inl, inr}
-use mathlib.Core.List.{List·Memᴰ}
-use Prim.Native.Nat.{ℕ, suc, _+_, _*_, _%_, _≤_, _<_}
-use native.Mathlib.Nat.{add-zero, zero-div, mul-le-mul-right, mod-lt}
-use native.Mathlib.Decide.{decLt}
+use mathlib.Core.List.{List, [], _∷_, List·Memᴰ, List·Memᴰ·head, List·Memᴰ·tail, List·Memᴰ·cases-cons, List·Memᴰ·not-nil}
+use Prim.Native.Nat.{ℕ, suc, _+_, _*_, _/_, _%_, _≤_, _<_}
+use native.Mathlib.Nat.{add-zero, zero-div, mul-le-mul-right, mod-lt, mul-div-cancel-left}
+use native.Mathlib.Decide.{ℕ-discrete, decLt}
 use native.Mathlib.Omega.{arith}
 use lib.ListN.{length}
 use Rattle.rules.specs.Ranges.{at}
-use Rattle.rules.specs.Collection.{Move, State, top}
+use Rattle.rules.specs.Header.{sizeOf}
+use Rattle.rules.specs.Collection.{Move, State, top, sizeAtCopy}
+use Rattle.laws.specs.Headers.{Left}
 use Rattle.laws.specs.Pages.{split-page, same-page, pages-apart}
+use Rattle.laws.specs.Safe.{SafeStep}
+use Rattle.laws.specs.Walk.{size}
 use Rattle.laws.specs.Words.{in-range}
-use Rattle.theory.specs.World.{pageOf, labelOf, labelWas, sizeAt, World, Gone, NotGone, AsBefore, Kept, stayed, went, Place, home, away, kept-place, Region, Moved, Inv}
+use Rattle.theory.specs.World.{pageOf, labelOf, labelWas, sizeAt, World, Gone, NotGone, AsBefore, Kept, stayed, went, Place, home, away, kept-place, Region, Moved, KeptPage, LabelledOrKept, Inv}
 
 -- two places: the same one, or one ends before the other begins
 abbrev pub SameOrApart : World → ℕ → ℕ → ℕ → ℕ → Type 0
 SameOrApart W a b x y = ((a ≡ x) × (b ≡ y)) ⊎ ((b + sizeAt W a ≤ y) ⊎ (y + sizeAt W x ≤ b))
+
+-- what stands at a place: the retained object, or the even word of one that was copied
+pub data Standing (W : World) (s : State) (x y : ℕ) : Type 0 where
+  there : Kept W s x y → Standing W s x y
+  left : (m : Move) → List·Memᴰ m (s .moves) → x ≡ m .from → y ≡ x → Standing W s x y
 
 -- an object's page was in use
 pub obj-used : (W : World) (x : ℕ) → W .Obj x → labelWas W x ≢ 0
@@ -29,29 +38,65 @@ obj-used W x ob q = go (W .kind x ob)
 pub some-words : (W : World) (x : ℕ) → W .Obj x → 0 < sizeAt W x
 some-words W x ob = omega (arith, W .shape x ob)
 
+-- an object was copied, or not
+pub gone-or-not : (W : World) (s : State) (x : ℕ) → Gone s x ⊎ NotGone s x
+gone-or-not W s x = in-moves (s .moves)
+  where
+    in-moves : (l : List Move) → ((m : Move) × List·Memᴰ m l × (x ≡ m .from)) ⊎ ((m : Move) → List·Memᴰ m l → m .from ≢ x)
+    in-moves [] = inr (λ m h. absurd (List·Memᴰ·not-nil h))
+    in-moves (k ∷ l) = go (in-moves l) (ℕ-discrete x (k .from))
+      where
+        go : ((m : Move) × List·Memᴰ m l × (x ≡ m .from)) ⊎ ((m : Move) → List·Memᴰ m l → m .from ≢ x) → Dec (x ≡ k .from)
+            → ((m : Move) × List·Memᴰ m (k ∷ l) × (x ≡ m .from)) ⊎ ((m : Move) → List·Memᴰ m (k ∷ l) → m .from ≢ x)
+        go d (yes e) = inl (k, List·Memᴰ·head refl, e)
+        go (inl (m, h, e)) (no q) = inl (m, List·Memᴰ·tail h, e)
+        go (inr f) (no q) = inr (λ m h e. then m e (List·Memᴰ·cases-cons h))
+          where
+            then : (m : Move) → m .from ≡ x → (m ≡ k) ⊎ List·Memᴰ m l → ⊥
+            then m e (inl z) = q (sym e ∙ ap (λ (j : Move). j .from) z)
+            then m e (inr z) = f m z e
+
 module _ (W : World) (s : State) (I : Inv W s) where
   -- ---- labels
 
   pub hinted-label : (g : ℕ) → at (W .labels) g ≡ W .plan .new → at (s .pages .labels) g ≡ W .plan .new
-  hinted-label g e = I .used g (λ q. W .new≢0 (sym e ∙ q)) ∙ e
+  hinted-label g e = go (I .used g (λ q. W .new≢0 (sym e ∙ q)))
+    where
+      go : LabelledOrKept W s g → at (s .pages .labels) g ≡ W .plan .new
+      go (inl q) = q ∙ e
+      go (inr k) = k .label
 
   pub old-before : (x : ℕ) → W .Obj x → labelOf W s x ≡ W .plan .old → labelWas W x ≡ W .plan .old
-  old-before x ob e = sym (I .used (pageOf W x) (obj-used W x ob)) ∙ e
+  old-before x ob e = go (I .used (pageOf W x) (obj-used W x ob))
+    where
+      go : LabelledOrKept W s (pageOf W x) → labelWas W x ≡ W .plan .old
+      go (inl q) = sym q ∙ e
+      go (inr k) = k .old
 
   -- an object's page has the old label or the new one
   pub obj-label : (x : ℕ) → W .Obj x → (labelOf W s x ≡ W .plan .old) ⊎ (labelOf W s x ≡ W .plan .new)
-  obj-label x ob = go (W .kind x ob)
+  obj-label x ob = go (W .kind x ob) (I .used (pageOf W x) (obj-used W x ob))
     where
-      e : labelOf W s x ≡ labelWas W x
-      e = I .used (pageOf W x) (obj-used W x ob)
-
-      go : (labelWas W x ≡ W .plan .old) ⊎ (labelWas W x ≡ W .plan .new)
+      go : (labelWas W x ≡ W .plan .old) ⊎ (labelWas W x ≡ W .plan .new) → LabelledOrKept W s (pageOf W x)
           → (labelOf W s x ≡ W .plan .old) ⊎ (labelOf W s x ≡ W .plan .new)
-      go (inl k) = inl (e ∙ k)
-      go (inr k) = inr (e ∙ k)
+      go k (inr q) = inr (q .label)
+      go (inl k) (inl e) = inl (e ∙ k)
+      go (inr k) (inl e) = inr (e ∙ k)
 
   pub obj-label-used : (x : ℕ) → W .Obj x → labelOf W s x ≢ 0
-  obj-label-used x ob q = obj-used W x ob (sym (I .used (pageOf W x) (obj-used W x ob)) ∙ q)
+  obj-label-used x ob q = go (obj-label x ob)
+    where
+      go : (labelOf W s x ≡ W .plan .old) ⊎ (labelOf W s x ≡ W .plan .new) → ⊥
+      go (inl e) = W .old≢0 (sym e ∙ q)
+      go (inr e) = W .new≢0 (sym e ∙ q)
+
+  -- a page that had the old label and has the new one is kept
+  pub old-new-kept : (g : ℕ) → at (W .labels) g ≡ W .plan .old → at (s .pages .labels) g ≡ W .plan .new → KeptPage W s g
+  old-new-kept g o n = go (I .used g (λ q. W .old≢0 (sym o ∙ q)))
+    where
+      go : LabelledOrKept W s g → KeptPage W s g
+      go (inl q) = absurd (W .new≢old (sym n ∙ q ∙ o))
+      go (inr k) = k
 
   -- a word on a page in use is in the heap
   pub word-inside : (w : ℕ) → labelOf W s w ≢ 0 → w < length (s .heap)
@@ -143,18 +188,14 @@ module _ (W : World) (s : State) (I : Inv W s) where
   pub kept-label : (x y : ℕ) → Kept W s x y → labelOf W s y ≡ W .plan .new
   kept-label x y k = simp add-zero at (kept-region x y 0 k (some-words W x (kept-obj x y k)) .label)
 
-  -- a place on a page with the new label is one
-  pub place-kept : (x y : ℕ) → labelOf W s y ≡ W .plan .new → Place W s x y → Kept W s x y
-  place-kept x y l (away m mem ex ey) = went m mem ex ey
-  place-kept x y l (home ob e) = stayed (record { object = ob; label = label; notGone = notGone }) e
+  -- a place on a page with the new label is one, or what one left
+  pub standing : (x y : ℕ) → labelOf W s y ≡ W .plan .new → Place W s x y → Standing W s x y
+  standing x y l (away m mem ex ey) = there (went m mem ex ey)
+  standing x y l (home ob e) = go (gone-or-not W s x)
     where
-      label : labelOf W s x ≡ W .plan .new
-      label = ap (labelOf W s) (sym e) ∙ l
-
-      notGone : NotGone s x
-      notGone m mem q =
-          let o : labelWas W x ≡ W .plan .old = ap (labelWas W) (sym q) ∙ I .moved m mem .old in
-          W .new≢old (sym label ∙ I .used (pageOf W x) (obj-used W x ob) ∙ o)
+      go : Gone s x ⊎ NotGone s x → Standing W s x y
+      go (inl (m, mem, ex)) = left m mem ex e
+      go (inr n) = there (stayed (record { object = ob; label = ap (labelOf W s) (sym e) ∙ l; notGone = n }) e)
 
   -- none of its words is where an object was copied from
   pub kept-from : (x y : ℕ) → Kept W s x y → (m : Move) → List·Memᴰ m (s .moves)
@@ -169,7 +210,34 @@ module _ (W : World) (s : State) (I : Inv W s) where
       go (inl e) = absurd (not-there K (e .1))
       go (inr d) = d
 
-  -- no place begins with 0, where page 0 is free
+  -- ---- what an object left that was copied, where page 0 is free
+
+  to-nonzero : at (s .pages .labels) 0 ≡ 0 → (m : Move) → List·Memᴰ m (s .moves) → m .to ≢ 0
+  to-nonzero free0 m mem t = W .new≢0 (sym (I .moved m mem .label) ∙ ap (labelOf W s) t ∙ ap (at (s .pages .labels)) (zero-div (W .plan .page)) ∙ free0)
+
+  -- the even word, and by it the length at the copy: that of the object
+  pub left-word : at (s .pages .labels) 0 ≡ 0 → (m : Move) → List·Memᴰ m (s .moves) → (room : ℕ) → sizeAt W (m .from) ≤ room → Left (at (s .heap) (m .from)) room
+  left-word free0 m mem room h = record {
+    even = omega (arith, I .moved m mem .planted);
+    some = omega (arith, I .moved m mem .planted, to-nonzero free0 m mem);
+    within = omega (arith, some-words W (m .from) (I .moved m mem .object));
+  }
+
+  pub left-copy : (m : Move) → List·Memᴰ m (s .moves) → at (s .heap) (m .from) / 2 ≡ m .to
+  left-copy m mem = ap (λ (k : ℕ). k / 2) (I .moved m mem .planted) ∙ mul-div-cancel-left (m .to) (omega arith)
+
+  pub left-size : (m : Move) → List·Memᴰ m (s .moves) → sizeAtCopy (s .heap) (at (s .heap) (m .from)) ≡ sizeAt W (m .from)
+  unfolding sizeAtCopy
+  left-size m mem = ap (size (s .heap)) (left-copy m mem) ∙ ap sizeOf (I .header (m .from) (m .to) (went m mem refl refl))
+
+  pub left-step : (m : Move) → List·Memᴰ m (s .moves) → (room : ℕ) → sizeAt W (m .from) ≤ room → SafeStep (s .heap) (at (s .heap) (m .from)) room
+  left-step m mem room h = record {
+    inside = rw (left-copy m mem) (word-inside (m .to) (λ q. W .new≢0 (sym (I .moved m mem .label) ∙ q)));
+    some = rw (left-size m mem) (some-words W (m .from) (I .moved m mem .object));
+    fits = rw (left-size m mem) h;
+  }
+
+  -- no place begins with 0
   pub place-nonzero : at (s .pages .labels) 0 ≡ 0 → (x y : ℕ) → Place W s x y → at (s .heap) y ≢ 0
   place-nonzero free0 x y (away m mem ex ey) q =
       let h : at (s .heap) y ≡ at (W .heap) x = I .header x y (went m mem ex ey) in
@@ -179,13 +247,14 @@ module _ (W : World) (s : State) (I : Inv W s) where
       z : at (s .heap) x ≡ 0
       z = ap (at (s .heap)) (sym e) ∙ q
 
-      to-pos : (m : Move) → List·Memᴰ m (s .moves) → m .to ≢ 0
-      to-pos m mem t = W .new≢0 (sym (I .moved m mem .label) ∙ ap (labelOf W s) t ∙ ap (at (s .pages .labels)) (zero-div (W .plan .page)) ∙ free0)
-
       old : Gone s x ⊎ AsBefore W s x → ⊥
-      old (inl (m, mem, eq)) = to-pos m mem (let a : 2 * m .to ≡ 0 = sym (I .moved m mem .planted) ∙ ap (at (s .heap)) (sym eq) ∙ z in omega arith)
+      old (inl (m, mem, eq)) = to-nonzero free0 m mem (let a : 2 * m .to ≡ 0 = sym (I .moved m mem .planted) ∙ ap (at (s .heap)) (sym eq) ∙ z in omega arith)
       old (inr f) = let a : at (s .heap) x ≡ at (W .heap) x = simp add-zero at (f 0 (some-words W x ob)) in omega (arith, W .odd x ob, z)
+
+      new : Standing W s x x → ⊥
+      new (there k) = let a : at (s .heap) x ≡ at (W .heap) x = I .header x x k in omega (arith, W .odd x ob, z)
+      new (left m mem ex ey) = old (inl (m, mem, ex))
 
       go : (labelOf W s x ≡ W .plan .old) ⊎ (labelOf W s x ≡ W .plan .new) → ⊥
       go (inl l) = old (I .unmoved x ob l)
-      go (inr l) = let a : at (s .heap) x ≡ at (W .heap) x = I .header x x (place-kept x x l (home ob refl)) in omega (arith, W .odd x ob, z)
+      go (inr l) = new (standing x x l (home ob refl))

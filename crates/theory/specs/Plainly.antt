@@ -8,8 +8,8 @@ use lib.ListN.{length}
 use Rattle.rules.specs.Ranges.{at}
 use Rattle.rules.specs.Header.{sizeOf, refsOf, isHeader}
 use Rattle.rules.specs.Lent.{Lent}
-use Rattle.rules.specs.Collection.{logged, plainly, Plan, Pages, State, Forwarded, Rooted, takePage, withRoom, top, put, copyObject, forward, forwardRoots, sweepReference, sweepReferences, sweepPage, sweepQueue, hintPage, hintPages, planOf, begun, afterHints, afterRoots, afterSweep, collection}
-use Rattle.laws.specs.Safe.{SafeHints, SafeTake, SafeCopy, SafeForward, SafeRoots, SafeReferences, SafePage, SafeQueue, SafeRun}
+use Rattle.rules.specs.Collection.{logged, plainly, Plan, Pages, State, Forwarded, Rooted, takePage, withRoom, top, put, copyObject, canCopy, keepPage, keepObject, forward, forwardRoots, sweepReference, sweepReferences, isLeft, sizeAtCopy, sweepPage, sweepQueue, hintPage, hintPages, planOf, begun, afterHints, afterRoots, afterSweep, filled, Collection, collection}
+use Rattle.laws.specs.Safe.{SafeHints, SafeTake, SafeCopy, SafeKeep, SafeForward, SafeRoots, SafeReferences, SafePage, SafeQueue, SafeRun}
 
 -- the plan that writes nothing down, and a state with nothing written down
 abbrev pub quiet : Plan → Plan
@@ -24,9 +24,22 @@ plainForwarded f = record { value = f .value; state = plain (f .state) }
 abbrev pub plainRooted : Rooted → Rooted
 plainRooted r = record { roots = r .roots; state = plain (r .state) }
 
-plain-cond : (b : Bool) (s : State) {x : State} (y : State) → x ≡ plain y → cond b x (plain s) ≡ plain (cond b y s)
-plain-cond true s y e = e
-plain-cond false s y e = refl
+abbrev pub unlogged : Collection → Collection
+unlogged c = record {
+  lent = c .lent;
+  roots = c .roots;
+  hinted = c .hinted;
+  taken = c .taken;
+  objects = c .objects;
+  words = c .words;
+  kept = c .kept;
+  fillers = c .fillers;
+  moves = [];
+}
+
+plain-either : (b : Bool) {x z : State} (y s : State) → x ≡ plain y → z ≡ plain s → cond b x z ≡ plain (cond b y s)
+plain-either true y s e f = e
+plain-either false y s e f = f
 
 module _ (k : Plan) where
   -- ---- the same states
@@ -35,17 +48,25 @@ module _ (k : Plan) where
   unfolding copyObject put top withRoom takePage
   copy-plain x s = refl
 
+  keep-plain : (x : ℕ) (s : State) → keepObject (quiet k) x (plain s) ≡ plainForwarded (keepObject k x s)
+  unfolding keepObject keepPage
+  keep-plain x s = refl
+
   forward-plain : (v : ℕ) (s : State) → forward (quiet k) v (plain s) ≡ plainForwarded (forward k v s)
-  unfolding forward
-  forward-plain v s = go (eqb v 0) (eqb (at (s .pages .labels) (v / k .page)) (k .new)) (eqb (at (s .heap) v % 2) 0)
+  unfolding forward canCopy
+  forward-plain v s =
+      go (eqb v 0) (eqb (at (s .heap) v % 2) 0) (eqb (at (s .pages .labels) (v / k .page)) (k .new)) (canCopy k (sizeOf (at (s .heap) v)) (s .pages))
     where
-      go : (x y z : Bool)
-          → cond x (record { value = 0; state = plain s }) (cond y (record { value = v; state = plain s }) (cond z (record { value = at (s .heap) v / 2; state = plain s }) (copyObject (quiet k) v (plain s))))
-          ≡ plainForwarded (cond x (record { value = 0; state = s }) (cond y (record { value = v; state = s }) (cond z (record { value = at (s .heap) v / 2; state = s }) (copyObject k v s))))
-      go true y z = refl
-      go false true z = refl
-      go false false true = refl
-      go false false false = copy-plain v s
+      go : (x y z c : Bool)
+          → cond x (record { value = 0; state = plain s }) (cond y (record { value = at (s .heap) v / 2; state = plain s })
+          (cond z (record { value = v; state = plain s }) (cond c (copyObject (quiet k) v (plain s)) (keepObject (quiet k) v (plain s)))))
+          ≡ plainForwarded (cond x (record { value = 0; state = s }) (cond y (record { value = at (s .heap) v / 2; state = s })
+          (cond z (record { value = v; state = s }) (cond c (copyObject k v s) (keepObject k v s)))))
+      go true y z c = refl
+      go false true z c = refl
+      go false false true c = refl
+      go false false false true = copy-plain v s
+      go false false false false = keep-plain v s
 
   reference-plain : (w : ℕ) (s : State) → sweepReference (quiet k) w (plain s) ≡ plain (sweepReference k w s)
   unfolding sweepReference
@@ -60,18 +81,21 @@ module _ (k : Plan) where
   unfolding sweepPage
   page-plain zero a room s = refl
   page-plain (suc f) a room s =
-      let n = sizeOf (at (s .heap) a) in
-      plain-cond (isHeader (at (s .heap) a) room) s _
-      (ap (sweepPage (quiet k) f (a + n) (room - n)) (references-plain (refsOf (at (s .heap) a)) (suc a) s)
-      ∙ page-plain f (a + n) (room - n) (sweepReferences k (refsOf (at (s .heap) a)) (suc a) s))
+      let w = at (s .heap) a in
+      let c = sizeAtCopy (s .heap) w in
+      plain-either (isHeader w room) (sweepPage k f (a + sizeOf w) (room - sizeOf w) (sweepReferences k (refsOf w) (suc a) s))
+      (cond (isLeft w room) (sweepPage k f (a + c) (room - c) s) s)
+      (ap (sweepPage (quiet k) f (a + sizeOf w) (room - sizeOf w)) (references-plain (refsOf w) (suc a) s)
+      ∙ page-plain f (a + sizeOf w) (room - sizeOf w) (sweepReferences k (refsOf w) (suc a) s))
+      (plain-either (isLeft w room) (sweepPage k f (a + c) (room - c) s) s (page-plain f (a + c) (room - c) s) refl)
 
   queue-plain : (f i : ℕ) (s : State) → sweepQueue (quiet k) f i (plain s) ≡ plain (sweepQueue k f i s)
   unfolding sweepQueue
   queue-plain zero i s = refl
   queue-plain (suc f) i s =
       let a = at (s .pages .queue) i * k .page in
-      plain-cond (ltb i (length (s .pages .queue))) s _
-      (ap (sweepQueue (quiet k) f (suc i)) (page-plain (k .page) a (k .page) s) ∙ queue-plain f (suc i) (sweepPage k (k .page) a (k .page) s))
+      plain-either (ltb i (length (s .pages .queue))) _ s
+      (ap (sweepQueue (quiet k) f (suc i)) (page-plain (k .page) a (k .page) s) ∙ queue-plain f (suc i) (sweepPage k (k .page) a (k .page) s)) refl
 
   roots-plain : (rs : List ℕ) (s : State) → forwardRoots (quiet k) rs (plain s) ≡ plainRooted (forwardRoots k rs s)
   unfolding forwardRoots
@@ -99,12 +123,15 @@ module _ (k : Plan) where
   }
 
   forward-quiet : (v : ℕ) (s : State) → SafeForward k v s → SafeForward (quiet k) v (plain s)
+  unfolding canCopy
   forward-quiet v s p = record {
     page = p .page;
     small = p .small;
+    fill = p .fill;
     within = p .within;
     label = p .label;
-    copy = λ a b e. copy-quiet (sizeOf (at (s .heap) v)) v s (p .copy a b e);
+    copy = λ n e l c. copy-quiet (sizeOf (at (s .heap) v)) v s (p .copy n e l c);
+    keep = λ n e l c. let t : SafeKeep k (v / k .page) (s .pages) = p .keep n e l c in record { new = t .new; used = t .used; few = t .few; queue = t .queue; kept = t .kept };
   }
 
   references-quiet : (n w : ℕ) (s : State) → SafeReferences k n w s → SafeReferences (quiet k) n w (plain s)
@@ -115,11 +142,15 @@ module _ (k : Plan) where
   page-quiet : (f a room : ℕ) (s : State) → SafePage k f a room s → SafePage (quiet k) f a room (plain s)
   unfolding SafePage
   page-quiet zero a room s p = tt
-  page-quiet (suc f) a room s p = λ h.
-      let (q, r) = p h in
-      let n = sizeOf (at (s .heap) a) in (
-        references-quiet (refsOf (at (s .heap) a)) (suc a) s q,
-        rw (references-plain (refsOf (at (s .heap) a)) (suc a) s) (page-quiet f (a + n) (room - n) (sweepReferences k (refsOf (at (s .heap) a)) (suc a) s) r),
+  page-quiet (suc f) a room s (p, l) =
+      let w = at (s .heap) a in
+      let c = sizeAtCopy (s .heap) w in (
+        λ h.
+            let (q, r) = p h in (
+              references-quiet (refsOf w) (suc a) s q,
+              rw (references-plain (refsOf w) (suc a) s) (page-quiet f (a + sizeOf w) (room - sizeOf w) (sweepReferences k (refsOf w) (suc a) s) r),
+            ),
+        λ h. let (q, r) = l h in (q, page-quiet f (a + c) (room - c) s r),
       )
 
   queue-quiet : (f i : ℕ) (s : State) → SafeQueue k f i s → SafeQueue (quiet k) f i (plain s)
@@ -159,16 +190,8 @@ module _ (m : Lent) (roots hints : List ℕ) where
   sweep-same = rw roots-same (queue-plain k (m .rec .pages) 0 _)
 
   -- one collection, but for the moves
-  pub collection-plainly : collection plainly m roots hints ≡ record {
-    lent = collection logged m roots hints .lent;
-    roots = collection logged m roots hints .roots;
-    hinted = collection logged m roots hints .hinted;
-    taken = collection logged m roots hints .taken;
-    objects = collection logged m roots hints .objects;
-    words = collection logged m roots hints .words;
-    moves = [];
-  }
-  unfolding collection planOf
+  pub collection-plainly : collection plainly m roots hints ≡ unlogged (collection logged m roots hints)
+  unfolding collection filled planOf
   collection-plainly = rw (sweep-same, roots-same, hints-same)
 
   pub run-plainly : SafeRun k m roots hints → SafeRun (planOf m plainly) m roots hints
@@ -177,6 +200,7 @@ module _ (m : Lent) (roots hints : List ℕ) where
     onHints = hints-quiet k _ (begun m) (p .onHints);
     onRoots = rw hints-same (roots-quiet k roots _ (p .onRoots));
     onQueue = rw roots-same (queue-quiet k (m .rec .pages) 0 _ (p .onQueue));
+    onKept = rw sweep-same (p .onKept);
     hinted = rw (hints-same, sweep-same) (p .hinted);
     queue = rw sweep-same (p .queue);
     objects = rw sweep-same (p .objects);

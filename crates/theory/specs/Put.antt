@@ -10,10 +10,10 @@ use native.Mathlib.Omega.{arith}
 use lib.ListN.{length, take, drop, length-set}
 use lib.Seq.{sets, length-sets, getD-set-same, getD-set-other}
 use Rattle.rules.specs.Ranges.{at}
-use Rattle.rules.specs.Collection.{Move, Pages, State, noted, top, put}
+use Rattle.rules.specs.Collection.{Move, Pages, State, noted, top, put, keptPages}
 use Rattle.laws.specs.Pages.{page-of, page-end, same-page, pages-apart}
 use Rattle.laws.specs.Words.{in-range, copied-in, copied-out}
-use Rattle.theory.specs.World.{pageOf, labelOf, labelWas, sizeAt, refsAt, World, live-map, Gone, AsBefore, Stays, Reach, Kept, stayed, went, becomes-map, Place, home, away, Swept, MovesApart, Region, Moved, Inv}
+use Rattle.theory.specs.World.{pageOf, labelOf, labelWas, sizeAt, refsAt, World, live-map, Gone, AsBefore, Stays, Reach, Kept, stayed, went, becomes-map, Place, home, away, Swept, MovesApart, Region, Moved, moved-on, kept-same, labelled-same, Inv}
 use Rattle.theory.specs.Places.{obj-used, some-words, old-before, kept-obj, kept-region}
 
 -- ---- an object copied to the top
@@ -218,16 +218,8 @@ module _ (W : World) (s : State) (x : ℕ) (R : Ready W s x) where
       go (inr e) = subst (λ (k : Move). Moved W s′ k) (sym e) here
       go (inl k) =
           let M : Moved W s m = R .inv .moved m k in
-          record {
-            object = M .object;
-            old = M .old;
-            reached = live-map stays-up (M .reached);
-            planted = put-used (m .from) (not-x m k) (obj-used W (m .from) (M .object)) ∙ M .planted;
-            fresh = M .fresh;
-            label = M .label;
-            fits = M .fits;
-            below = λ q. let b : m .to + sizeAt W (m .from) ≤ y = M .below q in omega arith;
-          }
+          moved-on W s s′ m M stays-up (put-used (m .from) (not-x m k) (obj-used W (m .from) (M .object)) ∙ M .planted) (M .label)
+          (λ q. let b : m .to + sizeAt W (m .from) ≤ y = M .below q in omega arith)
 
   unmoved′ : (a : ℕ) → W .Obj a → labelOf W s a ≡ W .plan .old → Gone s′ a ⊎ AsBefore W s′ a
   unmoved′ a ob old = go (ℕ-discrete a x) (R .inv .unmoved a ob old)
@@ -310,11 +302,12 @@ module _ (W : World) (s : State) (x : ℕ) (R : Ready W s x) where
       go (inr e) (inr f) = inl (e ∙ sym f)
 
   pub put-inv : Inv W s′
-  unfolding put
+  unfolding put keptPages
   put-inv = record {
     heapLength = length-same ∙ R .inv .heapLength;
     labelsLength = R .inv .labelsLength;
-    used = R .inv .used;
+    used = λ g h. labelled-same W s s′ refl refl g (R .inv .used g h);
+    kept = λ g h. kept-same W s s′ refl refl g (R .inv .kept g h);
     free = R .inv .free;
     copyFresh = R .inv .copyFresh;
     copyLabel = λ q. copy-label;

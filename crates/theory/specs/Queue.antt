@@ -9,12 +9,13 @@ use native.Mathlib.Omega.{arith}
 use lib.ListN.{length, set, length-set, length-append, List·getD-append}
 use lib.Seq.{getD-set-same, getD-set-other, getD-append-seam}
 use Rattle.rules.specs.Ranges.{at}
+use Rattle.rules.specs.Demands.{Once}
 use Rattle.laws.specs.Words.{in-range}
 use Rattle.theory.specs.Sums.{mem-at, places-distinct, below-length}
 
 pub record Queued (new : ℕ) (labels queue : List ℕ) : Type 0 where
   pub all : (g : ℕ) → at labels g ≡ new → (j : ℕ) × (j < length queue) × (at queue j ≡ g)
-  pub once : (i j : ℕ) → i < length queue → j < length queue → at queue i ≡ at queue j → i ≡ j
+  pub once : Once queue
   pub only : (j : ℕ) → j < length queue → at labels (at queue j) ≡ new
 
 pub join : (new : ℕ) (labels queue : List ℕ) (g : ℕ) → g < length labels → at labels g ≢ new → Queued new labels queue

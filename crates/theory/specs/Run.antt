@@ -3,22 +3,22 @@ use mathlib.Core.Path.{_≡_}
 use mathlib.Core.Logic.{_⊎_, inl, inr}
 use mathlib.Core.List.{List, List·Memᴰ}
 use Prim.Native.Nat.{ℕ, _≤_, _<_}
-use native.Mathlib.Nat.{le-trans}
 use native.Mathlib.Omega.{arith}
 use lib.ListN.{length}
 use Rattle.rules.specs.Ranges.{at}
 use Rattle.rules.specs.Lent.{Lent}
 use Rattle.rules.specs.Sound.{IsObject}
-use Rattle.rules.specs.Collection.{logged, State, Rooted, planOf, afterRoots, afterSweep}
+use Rattle.rules.specs.Collection.{logged, State, Rooted, planOf, afterRoots, afterSweep, filled as fillers}
 use Rattle.laws.specs.Safe.{SafeRoots, SafeQueue, SafeRun}
 use Rattle.theory.specs.Sums.{at-mem}
 use Rattle.theory.specs.World.{World}
-use Rattle.theory.specs.Packs.{words-old}
+use Rattle.theory.specs.Packs.{packs-within, words-old}
+use Rattle.theory.specs.FillPages.{FilledAll, filled-all}
 use Rattle.theory.specs.SweepQueue.{RootsDone, AllDone, forward-roots, sweep-queue, queue-length}
 use Rattle.theory.specs.Accept.{Accepted}
 use Rattle.theory.specs.FirstState.{s, world, first-good, hints-run-safe, labels-length}
 
-module _ (m : Lent) (roots hints : List ℕ) (A : Accepted m roots hints) where
+module _ (m : Lent) (roots hints : List ℕ) (A : Accepted m roots) where
   abbrev pub W : World
   W = world m roots hints A
 
@@ -41,13 +41,19 @@ module _ (m : Lent) (roots hints : List ℕ) (A : Accepted m roots hints) where
   unfolding world afterSweep
   all-done = sweep-queue W (m .rec .pages) 0 (r .state) (roots-done .good) (omega (arith, labels-length m roots hints A)) (λ j h. absurd (omega arith))
 
+  -- the heap with its fillers
+  pub filled : FilledAll W t (fillers (planOf m logged) t)
+  unfolding world
+  filled = let G = all-done .good in filled-all W t (G .inv) (G .tiled) (G .lined .queued) (packs-within W t (G .packs))
+
   pub run-safe : SafeRun (planOf m logged) m roots hints
   unfolding world
   run-safe = record {
     onHints = hints-run-safe m roots hints A;
     onRoots = roots-done .safe;
     onQueue = all-done .safe;
-    hinted = le-trans (roots-done .grow .longer) (all-done .grow .longer);
+    onKept = filled .safe;
+    hinted = omega (arith, all-done .good .packs .joined);
     queue = omega (arith, queue-length W t (all-done .good), W .few);
     objects = omega (arith, words, all-done .good .packs .objects);
     words = words;

@@ -1,5 +1,5 @@
 -- A reference stored: the sweep writes to a retained object's reference what it has become. That keeps the invariant.
-use mathlib.Core.Path.{_≡_, sym, ap, _∙_}
+use mathlib.Core.Path.{_≡_, refl, sym, ap, _∙_}
 use mathlib.Core.Logic.{_≢_, _⊎_, inl, inr}
 use mathlib.Core.List.{List·Memᴰ}
 use Prim.Native.Nat.{ℕ, _+_, _≤_, _<_}
@@ -12,7 +12,7 @@ use Rattle.rules.specs.Ranges.{at}
 use Rattle.rules.specs.Collection.{Move, State}
 use Rattle.rules.specs.Demands.{Becomes}
 use Rattle.laws.specs.Pages.{same-page}
-use Rattle.theory.specs.World.{Swept, becomes-map, labelOf, sizeAt, refsAt, World, live-map, Gone, AsBefore, Stays, Kept, stayed, went, Place, home, away, Region, Moved, Inv}
+use Rattle.theory.specs.World.{Swept, becomes-map, labelOf, sizeAt, refsAt, World, Gone, AsBefore, Stays, Kept, stayed, went, Place, home, away, Region, Moved, moved-on, kept-same, labelled-same, Inv}
 use Rattle.theory.specs.Places.{SameOrApart, some-words, word-inside, kept-obj, kept-region, kept-apart, kept-from}
 
 -- the state with u stored at address w
@@ -132,7 +132,8 @@ module _ (W : World) (t : State) (I : Inv W t) (x y i u : ℕ) (S : Slot W t x y
   store-inv = record {
     heapLength = length-set (t .heap) (y + i) u ∙ I .heapLength;
     labelsLength = I .labelsLength;
-    used = I .used;
+    used = λ g h. labelled-same W t t′ refl refl g (I .used g h);
+    kept = λ g h. kept-same W t t′ refl refl g (I .kept g h);
     free = I .free;
     copyFresh = I .copyFresh;
     copyLabel = I .copyLabel;
@@ -146,18 +147,7 @@ module _ (W : World) (t : State) (I : Inv W t) (x y i u : ℕ) (S : Slot W t x y
   }
     where
       moved : (m : Move) → List·Memᴰ m (t .moves) → Moved W t′ m
-      moved m h =
-          let M : Moved W t m = I .moved m h in
-          record {
-            object = M .object;
-            old = M .old;
-            reached = live-map stays-up (M .reached);
-            planted = planted-same m h ∙ M .planted;
-            fresh = M .fresh;
-            label = M .label;
-            fits = M .fits;
-            below = M .below;
-          }
+      moved m h = let M : Moved W t m = I .moved m h in moved-on W t t′ m M stays-up (planted-same m h ∙ M .planted) (M .label) (M .below)
 
       unmoved : (a : ℕ) → W .Obj a → labelOf W t a ≡ W .plan .old → Gone t a ⊎ AsBefore W t a → Gone t′ a ⊎ AsBefore W t′ a
       unmoved a ob old (inl z) = inl z

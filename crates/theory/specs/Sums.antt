@@ -8,6 +8,7 @@ use Prim.Native.Nat.{ℕ, zero, suc, _+_, _≤_, _<_, zero-le}
 use native.Mathlib.Omega.{arith}
 use lib.ListN.{length}
 use Rattle.rules.specs.Ranges.{at, block, sum}
+use Rattle.rules.specs.Demands.{Once}
 use Rattle.laws.specs.Lists.{block-mem}
 use Rattle.laws.specs.FreePages.{block-length}
 
@@ -43,6 +44,17 @@ distinct-snoc (y ∷ xs) x d n = (go, distinct-snoc xs x (d .1) (λ m. n (List·
         then : List·Memᴰ y xs ⊎ List·Memᴰ y (x ∷ []) → ⊥
         then (inl a) = d .0 a
         then (inr b) = n (List·Memᴰ·head (sym (List·Memᴰ·eq-of-singleton b)))
+
+pub distinct-append : (xs ys : List ℕ) → Distinct xs → Distinct ys → ((z : ℕ) → List·Memᴰ z xs → List·Memᴰ z ys → ⊥) → Distinct (xs ++ ys)
+distinct-append [] ys d e n = e
+distinct-append (x ∷ xs) ys d e n = (go, distinct-append xs ys (d .1) e (λ z a b. n z (List·Memᴰ·tail a) b))
+  where
+    go : List·Memᴰ x (xs ++ ys) → ⊥
+    go h = then (List·Memᴰ·append-cases xs h)
+      where
+        then : List·Memᴰ x xs ⊎ List·Memᴰ x ys → ⊥
+        then (inl a) = d .0 a
+        then (inr b) = n x (List·Memᴰ·head refl) b
 
 -- the list without one member
 without : {x : ℕ} {ys : List ℕ} → List·Memᴰ x ys → List ℕ
@@ -91,12 +103,19 @@ at-mem [] j h = absurd (omega arith)
 at-mem (y ∷ l) zero h = List·Memᴰ·head refl
 at-mem (y ∷ l) (suc j) h = List·Memᴰ·tail (at-mem l j (omega arith))
 
-pub places-distinct : (l : List ℕ) → ((i j : ℕ) → i < length l → j < length l → at l i ≡ at l j → i ≡ j) → Distinct l
+pub places-distinct : (l : List ℕ) → Once l → Distinct l
 places-distinct [] f = tt
 places-distinct (x ∷ l) f = (
   λ m. let (j, a, b) = mem-at l x m in absurd (let z : 0 ≡ suc j = f 0 (suc j) (omega arith) (omega arith) (sym b) in omega arith),
   places-distinct l (λ i j a b e. let z : suc i ≡ suc j = f (suc i) (suc j) (omega arith) (omega arith) e in omega arith),
 )
+
+pub distinct-places : (l : List ℕ) → Distinct l → Once l
+distinct-places [] d i j hi hj e = absurd (omega arith)
+distinct-places (x ∷ l) d zero zero hi hj e = refl
+distinct-places (x ∷ l) d zero (suc j) hi hj e = absurd (d .0 (Memᴰ·cast e (at-mem l j (omega arith))))
+distinct-places (x ∷ l) d (suc i) zero hi hj e = absurd (d .0 (Memᴰ·cast (sym e) (at-mem l i (omega arith))))
+distinct-places (x ∷ l) d (suc i) (suc j) hi hj e = ap suc (distinct-places l (d .1) i j (omega arith) (omega arith) e)
 
 -- distinct numbers below n: there are no more than n
 pub below-length : (l : List ℕ) (n : ℕ) → Distinct l → ((x : ℕ) → List·Memᴰ x l → x < n) → length l ≤ n

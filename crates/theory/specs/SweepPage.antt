@@ -1,59 +1,25 @@
 -- The sweep of a page: it meets every retained object of the page in turn, those that are put there meanwhile too, and each of
--- their references ends forwarded.
-use mathlib.Core.Path.{_≡_, sym, ap, _∙_}
+-- their references ends forwarded. On a kept page it steps over what was copied.
+use mathlib.Core.Path.{_≡_, refl, sym, ap, _∙_}
 use mathlib.Core.Logic.{_⊎_, inl, inr}
-use mathlib.Core.Bool.{true, false, true≢false}
+use mathlib.Core.Bool.{true, true≢false}
+use mathlib.Core.List.{List·Memᴰ}
 use Prim.Native.Nat.{ℕ, zero, suc, _+_, _*_, _-_, _≤_, _<_}
-use native.Mathlib.Nat.{add-zero, le-refl, le-trans}
+use native.Mathlib.Nat.{add-zero, le-trans}
 use native.Mathlib.Decide.{decLt}
 use native.Mathlib.Omega.{arith}
 use lib.ListN.{length}
 use Rattle.rules.specs.Ranges.{at}
 use Rattle.rules.specs.Header.{isHeader}
-use Rattle.rules.specs.Collection.{State, top, sweepReferences, sweepPage}
-use Rattle.laws.specs.Headers.{header-is, header-zero, header-full}
-use Rattle.laws.specs.Pages.{split-page, page-on, on-page, same-page}
+use Rattle.rules.specs.Collection.{Move, State, sweepReferences, sweepPage}
+use Rattle.laws.specs.Headers.{header-is, Left, left-is, left-odd, left-no-header}
+use Rattle.laws.specs.Pages.{split-page, same-page}
 use Rattle.laws.specs.Safe.{SafeReferences, SafePage}
-use Rattle.theory.specs.World.{Swept, pageOf, labelOf, sizeAt, refsAt, World, Kept, Place, kept-place, Region, Inv}
-use Rattle.theory.specs.Places.{SameOrApart, place-obj, kept-obj, place-fits, kept-fits, place-end, place-top, place-apart, kept-apart, kept-region, place-kept, place-nonzero}
-use Rattle.theory.specs.Tile.{Next, another, full, blank, Tiled}
+use Rattle.theory.specs.World.{Swept, pageOf, labelOf, sizeAt, refsAt, World, Kept, Place, home, kept-place, Region}
+use Rattle.theory.specs.Places.{SameOrApart, some-words, Standing, there, left, place-obj, kept-obj, place-fits, kept-fits, place-end as place-ends, kept-apart, kept-region, kept-from, standing, left-word, left-size, left-step}
+use Rattle.theory.specs.Cursor.{Cursor, at-place, at-stop, behind-place}
 use Rattle.theory.specs.Good.{Good, Fresh, Grow, grow-refl, grow-trans}
 use Rattle.theory.specs.SweepReferences.{Refs, sweep-references}
-
--- ---- where a walk of page g stands, with `room` words before the page's end: on a place, or at the stop
-
-pub data Cursor (W : World) (s : State) (g a room : ℕ) : Type 0 where
-  at-place : (x : ℕ) → Place W s x a → pageOf W a ≡ g → Cursor W s g a room
-  at-stop : isHeader (at (s .heap) a) room ≡ false → ((x y : ℕ) → Place W s x y → pageOf W y ≡ g → y + sizeAt W x ≤ a)
-      → ((w : ℕ) → pageOf W w ≡ g → a ≤ w → at (s .heap) w ≡ 0) → (g ≡ s .pages .copy → a ≡ top (W .plan) (s .pages)) → Cursor W s g a room
-
--- behind a place
-pub behind-place : (W : World) (s : State) → Inv W s → Tiled W s → (g x y room : ℕ) → Place W s x y → pageOf W y ≡ g
-    → y + sizeAt W x + room ≡ g * W .plan .page + W .plan .page → Cursor W s g (y + sizeAt W x) room
-unfolding top
-behind-place W s I T g x y zero k e h =
-    at-stop (header-full _) (λ a b m q. omega (arith, place-end W s I g a b m q)) (λ w q l. absurd (omega (arith, page-on (W .pos) w g q .1)))
-    (λ q. omega (arith, I .fillWithin, place-top W s I x y k (e ∙ q), ap (λ (j : ℕ). j * W .plan .page) q))
-behind-place W s I T g x y (suc room) k e h = go (T .next x y k)
-  where
-    z : ℕ
-    z = y + sizeAt W x
-
-    zg : pageOf W z ≡ g
-    zg = on-page (W .pos) z g (omega (arith, page-on (W .pos) y g e .0)) (omega arith)
-
-    go : Next W s (pageOf W y) (y + sizeAt W x) → Cursor W s g (y + sizeAt W x) (suc room)
-    go (another x′ k′ e′) = at-place x′ k′ (e′ ∙ e)
-    go (full q) = absurd (omega (arith, ap (λ (k : ℕ). k * W .plan .page) e))
-    go (blank f q) = at-stop (ap (λ (w : ℕ). isHeader w (suc room)) (f z (zg ∙ sym e) (le-refl z)) ∙ header-zero (suc room)) none (λ w a l. f w (a ∙ sym e) l) (λ a. q (e ∙ a))
-      where
-        none : (a b : ℕ) → Place W s a b → pageOf W b ≡ g → b + sizeAt W a ≤ y + sizeAt W x
-        none a b m eb = one (place-apart W s I a b x y m k)
-          where
-            one : SameOrApart W a b x y → b + sizeAt W a ≤ y + sizeAt W x
-            one (inl (p, q)) = rw (p, q) (le-refl _)
-            one (inr (inl l)) = omega arith
-            one (inr (inr l)) = absurd (place-nonzero W s I (T .page0) a b m (f b (eb ∙ sym e) l))
 
 -- ---- a page
 
@@ -86,7 +52,7 @@ page-end W g a s Safe safe G none before = record {
 
 page-none : (W : World) (g : ℕ) → PageOk W g zero
 unfolding sweepPage SafePage
-page-none W g a room s G Q e le (at-stop h none bl tp) before = page-end W g a s (Unit {0}) tt G none before
+page-none W g a room s G Q e le (at-stop h n none bl tp) before = page-end W g a s (Unit {0}) tt G none before
 page-none W g a room s G Q e le (at-place x K pg) before =
     absurd (omega (arith, place-fits W s (G .inv) x a K, split-page (W .plan .page) a, ap (λ (k : ℕ). k * W .plan .page) pg, W .shape x (place-obj W s (G .inv) x a K)))
 
@@ -144,17 +110,59 @@ module _ (W : World) (g f a room : ℕ) (s : State) (G : Good W s) (Q : InQueue 
       let r : PageDone W t g (sweepPage (W .plan) f (a + sizeAt W x) (room - sizeAt W x) t) (SafePage (W .plan) f (a + sizeAt W x) (room - sizeAt W x) t) =
       ih (a + sizeAt W x) (room - sizeAt W x) t (swept .good) in-queue (omega (arith, fits)) (omega (arith, W .shape x ob, fits))
       (behind-place W t (swept .good .inv) (swept .good .tiled) g x a (room - sizeAt W x) (kept-place W t (swept .grow .kept x a K)) pg (omega (arith, fits))) before′ in
-      rw (hd, is) (record { safe = λ z. (swept .safe, r .safe); good = r .good; grow = grow-trans W s t _ (swept .grow) (r .grow); done = r .done })
+      rw (hd, is, left-odd (at (W .heap) x) room (W .odd x ob)) (record { safe = (λ z. (swept .safe, r .safe), λ z. absurd (true≢false (sym z))); good = r .good; grow = grow-trans W s t _ (swept .grow) (r .grow); done = r .done })
+
+-- where an object was that is copied
+module _ (W : World) (g f a room : ℕ) (s : State) (G : Good W s) (Q : InQueue s g) (e : a + room ≡ g * W .plan .page + W .plan .page) (le : room ≤ suc f)
+    (m : Move) (mem : List·Memᴰ m (s .moves)) (pg : pageOf W (m .from) ≡ g) (here : a ≡ m .from) (before : Before W s g a) where
+  abbrev x : ℕ
+  x = m .from
+
+  gone-ob : W .Obj x
+  gone-ob = G .inv .moved m mem .object
+
+  gone-place : Place W s x x
+  gone-place = home gone-ob refl
+
+  gone-fits : sizeAt W x ≤ room
+  gone-fits = omega (arith, place-ends W s (G .inv) g x x gone-place pg)
+
+  word : Left (at (s .heap) x) room
+  word = left-word W s (G .inv) (G .tiled .page0) m mem room gone-fits
+
+  beyond : Before W s g (x + sizeAt W x)
+  beyond x′ y′ k′ pg′ lt = go (kept-from W s (G .inv) x′ y′ k′ m mem)
+    where
+      go : (y′ + sizeAt W x′ ≤ m .from) ⊎ (m .from + sizeAt W (m .from) ≤ y′) → (i : ℕ) → 0 < i → i ≤ refsAt W x′ → Swept W s x′ y′ i
+      go (inl l) = before x′ y′ k′ pg′ (omega (arith, some-words W x′ (kept-obj W s (G .inv) x′ y′ k′)))
+      go (inr l) = absurd (omega arith)
+
+  page-left : PageOk W g f → PageDone W s g (sweepPage (W .plan) (suc f) a room s) (SafePage (W .plan) (suc f) a room s)
+  unfolding sweepPage SafePage
+  page-left ih =
+      let r : PageDone W s g (sweepPage (W .plan) f (x + sizeAt W x) (room - sizeAt W x) s) (SafePage (W .plan) f (x + sizeAt W x) (room - sizeAt W x) s) =
+      ih (x + sizeAt W x) (room - sizeAt W x) s G Q (omega (arith, gone-fits)) (omega (arith, some-words W x gone-ob, gone-fits))
+      (behind-place W s (G .inv) (G .tiled) g x x (room - sizeAt W x) gone-place pg (omega (arith, gone-fits))) beyond in
+      rw (here, left-no-header (at (s .heap) x) room room word, left-is (at (s .heap) x) room word, left-size W s (G .inv) m mem) (record {
+        safe = (λ z. absurd (true≢false (sym z)), λ z. (left-step W s (G .inv) m mem room gone-fits, r .safe));
+        good = r .good;
+        grow = r .grow;
+        done = r .done;
+      })
 
 page-more : (W : World) (g f : ℕ) → PageOk W g f → PageOk W g (suc f)
-page-more W g f ih a room s G Q e le (at-stop h none bl tp) before = go
+page-more W g f ih a room s G Q e le (at-stop h n none bl tp) before = go
   where
     go : PageDone W s g (sweepPage (W .plan) (suc f) a room s) (SafePage (W .plan) (suc f) a room s)
-    go = unfold sweepPage SafePage in rw h (page-end W g a s _ (λ z. absurd (true≢false (sym z))) G none before)
-page-more W g f ih a room s G Q e le (at-place x K pg) before = page-place W g f a room s G Q e le x (place-kept W s (G .inv) x a label K) pg before ih
+    go = unfold sweepPage SafePage in rw (h, n) (page-end W g a s _ (λ z. absurd (true≢false (sym z)), λ z. absurd (true≢false (sym z))) G none before)
+page-more W g f ih a room s G Q e le (at-place x K pg) before = go (standing W s (G .inv) x a label K)
   where
     label : labelOf W s a ≡ W .plan .new
     label = let (j, lt, q) = Q in ap (at (s .pages .labels)) (pg ∙ sym q) ∙ G .lined .queued .only j lt
+
+    go : Standing W s x a → PageDone W s g (sweepPage (W .plan) (suc f) a room s) (SafePage (W .plan) (suc f) a room s)
+    go (there k) = page-place W g f a room s G Q e le x k pg before ih
+    go (left m mem ex ey) = page-left W g f a room s G Q e le m mem (ap (pageOf W) (sym (ey ∙ ex)) ∙ pg) (ey ∙ ex) before ih
 
 pub sweep-page : (W : World) (g f : ℕ) → PageOk W g f
 sweep-page W g zero = page-none W g

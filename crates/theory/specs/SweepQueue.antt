@@ -22,7 +22,8 @@ use Rattle.theory.specs.World.{Swept, becomes-map, pageOf, refsAt, World
 use Rattle.theory.specs.Places.{kept-label}
 use Rattle.theory.specs.Tile.{Begins}
 use Rattle.theory.specs.Good.{Good, Fresh, Grow, grow-refl, grow-trans, Went, forward-went}
-use Rattle.theory.specs.SweepPage.{Cursor, at-place, PageDone, sweep-page}
+use Rattle.theory.specs.Cursor.{Cursor, at-place}
+use Rattle.theory.specs.SweepPage.{PageDone, sweep-page}
 
 -- ---- the queue
 

@@ -9,12 +9,13 @@ use Rattle.rules.specs.Ranges.{at}
 use Rattle.rules.specs.Collection.{State, Forwarded, forward, sweepReference, sweepReferences}
 use Rattle.rules.specs.Demands.{Becomes}
 use Rattle.laws.specs.Safe.{SafeForward, SafeReferences}
-use Rattle.theory.specs.World.{Swept, refsAt, World, ref, Reach, Kept, Inv}
+use Rattle.theory.specs.World.{Swept, refsAt, World, ref, live-map, Reach, Kept, Inv}
 use Rattle.theory.specs.Places.{kept-obj, kept-label}
 use Rattle.theory.specs.Forward.{forward-self}
 use Rattle.theory.specs.Packs.{Packs}
+use Rattle.theory.specs.Causes.{StaysBy, Cause, Causes}
 use Rattle.theory.specs.ForwardSafe.{forward-safe}
-use Rattle.theory.specs.Store.{stored, Slot, kept-up, kept-back, slot-swept, swept-up, store-inv}
+use Rattle.theory.specs.Store.{stored, Slot, stays-up, kept-up, kept-back, slot-swept, swept-up, store-inv}
 use Rattle.theory.specs.Tile.{store-tiled, store-lined}
 use Rattle.theory.specs.Good.{Good, Grow, grow-refl, grow-trans, kept-reach, Went, forward-went}
 
@@ -35,7 +36,16 @@ module _ (W : World) (t : State) (I : Inv W t) (x y i u : ℕ) (S : Slot W t x y
   }
 
   store-packs : Packs W t → Packs W t′
-  store-packs K = record { taken = K .taken; joined = K .joined; left = K .left; distinct = K .distinct; packed = K .packed; words = K .words; objects = K .objects; room = K .room }
+  store-packs K = record { taken = K .taken; joined = K .joined; left = K .left; unkept = K .unkept; distinct = K .distinct; packed = K .packed; words = K .words; objects = K .objects }
+
+  store-causes : Causes W t → Causes W t′
+  store-causes C = record { each = λ j h. each (C .each j h); full = C .full }
+    where
+      by : (j a : ℕ) → StaysBy W t j a → StaysBy W t′ j a
+      by j a q = record { stays = stays-up W t I x y i u S a (q .stays); page = q .page }
+
+      each : {j : ℕ} → Cause W t j → Cause W t′ j
+      each {j} c = record { from = c .from; object = c .object; page = c .page; reached = live-map (by j) (c .reached) }
 
 -- ---- a reference swept
 
@@ -63,9 +73,8 @@ module _ (W : World) (s : State) (G : Good W s) (x y i : ℕ) (K : Kept W s x y)
       go (inl e) = as-before e
       go (inr (inl (a, b))) = as-before (b ∙ sym a)
       go (inr (inr k)) =
-          let l = kept-label W s (G .inv) _ _ k in
-          rw (forward-self W s (G .inv) (at (s .heap) (y + i)) l) (record {
-            safe = forward-safe W s (G .inv) (G .packs) (G .lined .queued) (at (s .heap) (y + i)) (inr (inr l));
+          rw (forward-self W s (G .inv) v (at (s .heap) (y + i)) k) (record {
+            safe = forward-safe W s (G .inv) (G .packs) (G .lined .queued) (at (s .heap) (y + i)) (inr (inr (kept-label W s (G .inv) _ _ k)));
             good = G;
             grow = grow-refl W s;
             becomes = inr k;
@@ -84,6 +93,7 @@ module _ (W : World) (s : State) (G : Good W s) (x y i : ℕ) (K : Kept W s x y)
     packs = store-packs W t (reference-went .good .inv) x y i (f .value) slot (reference-went .good .packs);
     tiled = store-tiled W t (reference-went .good .inv) x y i (f .value) slot (reference-went .good .tiled);
     lined = store-lined W t (reference-went .good .inv) x y i (f .value) slot (reference-went .good .lined);
+    causes = store-causes W t (reference-went .good .inv) x y i (f .value) slot (reference-went .good .causes);
     filled = reference-went .good .filled;
   }
 

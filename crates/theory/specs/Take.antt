@@ -1,7 +1,7 @@
--- What a later state keeps of an earlier one; and a page taken keeps the invariant.
-use mathlib.Core.Path.{_≡_, refl, sym, ap, _∙_}
+-- What a later state keeps of an earlier one; and a page taken keeps the invariant, where no page is kept so far.
+use mathlib.Core.Path.{_≡_, refl, sym, ap, _∙_, subst}
 use mathlib.Core.Logic.{_≢_, _⊎_, inl, inr}
-use mathlib.Core.List.{List, List·Memᴰ}
+use mathlib.Core.List.{List, List·Memᴰ, List·Memᴰ·not-nil}
 use Prim.Native.Nat.{ℕ, _+_, _<_, zero-le}
 use native.Mathlib.Decide.{ℕ-discrete}
 use native.Mathlib.Omega.{arith}
@@ -9,10 +9,11 @@ use lib.ListN.{length, set, length-set}
 use lib.Seq.{getD-set-same, getD-set-other}
 use Rattle.rules.specs.Ranges.{at}
 use Rattle.rules.specs.Pages.{lowestFree}
-use Rattle.rules.specs.Collection.{Move, Pages, State, takePage, put}
+use Rattle.rules.specs.Collection.{Move, State, onPages, takePage, put, keptPages}
 use Rattle.rules.specs.Demands.{Becomes}
 use Rattle.laws.specs.FreePages.{Lowest}
-use Rattle.theory.specs.World.{becomes-map, pageOf, sizeAt, World, live-map, Stays, Kept, stayed, went, Region, Moved, Inv}
+use Rattle.theory.specs.KeptPages.{kept-none}
+use Rattle.theory.specs.World.{becomes-map, pageOf, sizeAt, World, Stays, Kept, stayed, went, Region, Moved, moved-on, LabelledOrKept, Inv}
 use Rattle.theory.specs.Places.{obj-used}
 use Rattle.theory.specs.Put.{Ready, put-region, put-keeps, mem-up, stays-up}
 
@@ -44,11 +45,7 @@ put-ext W t x R = record { region = put-keeps W t x R; words = put-region W t x 
 
 -- ---- a page taken
 
--- the state with other pages
-abbrev pub onPages : State → Pages → State
-onPages s p = record { heap = s .heap; pages = p; objects = s .objects; words = s .words; moves = s .moves }
-
-module _ (W : World) (s : State) (I : Inv W s) (L : Lowest (s .pages .labels) (W .plan .lo) (W .plan .hi)) where
+module _ (W : World) (s : State) (I : Inv W s) (unkept : s .pages .kept ≡ 0) (L : Lowest (s .pages .labels) (W .plan .lo) (W .plan .hi)) where
   -- the page, the labels and the state after
   abbrev pub g : ℕ
   g = lowestFree (s .pages .labels) (W .plan .lo) (W .plan .hi)
@@ -68,12 +65,22 @@ module _ (W : World) (s : State) (I : Inv W s) (L : Lowest (s .pages .labels) (W
   pub label-up : (k : ℕ) → at (s .pages .labels) k ≢ 0 → at ls k ≡ at (s .pages .labels) k
   label-up k h = getD-set-other (s .pages .labels) g k (W .plan .new) 0 (not-page k h)
 
+  not-kept : (k : ℕ) → List·Memᴰ k (keptPages (s .pages)) → ⊥
+  not-kept k h = List·Memᴰ·not-nil (subst (List·Memᴰ k) (kept-none (s .pages) unkept) h)
+
+  used-same : (k : ℕ) → at (W .labels) k ≢ 0 → at (s .pages .labels) k ≡ at (W .labels) k
+  used-same k h = go (I .used k h)
+    where
+      go : LabelledOrKept W s k → at (s .pages .labels) k ≡ at (W .labels) k
+      go (inl e) = e
+      go (inr q) = absurd (not-kept k (q .listed))
+
   fresh : at (W .labels) g ≡ 0
   fresh = go (ℕ-discrete (at (W .labels) g) 0)
     where
       go : Dec (at (W .labels) g ≡ 0) → at (W .labels) g ≡ 0
       go (yes e) = e
-      go (no q) = absurd (q (sym (I .used g q) ∙ L .free))
+      go (no q) = absurd (q (sym (used-same g q) ∙ L .free))
 
   used-label : (k : ℕ) → at (W .labels) k ≢ 0 → at ls k ≡ at (s .pages .labels) k
   used-label k h = getD-set-other (s .pages .labels) g k (W .plan .new) 0 (λ e. h (ap (at (W .labels)) e ∙ fresh))
@@ -122,7 +129,8 @@ module _ (W : World) (s : State) (I : Inv W s) (L : Lowest (s .pages .labels) (W
   take-inv = record {
     heapLength = I .heapLength;
     labelsLength = length-set (s .pages .labels) g (W .plan .new) ∙ I .labelsLength;
-    used = λ k h. used-label k h ∙ I .used k h;
+    used = λ k h. inl (used-label k h ∙ used-same k h);
+    kept = λ k h. absurd (List·Memᴰ·not-nil (subst (List·Memᴰ k) (kept-none (t .pages) unkept) h));
     free = free′;
     copyFresh = fresh;
     copyLabel = λ q. getD-set-same (s .pages .labels) g (W .plan .new) 0 page-inside;
@@ -138,16 +146,7 @@ module _ (W : World) (s : State) (I : Inv W s) (L : Lowest (s .pages .labels) (W
       moved : (m : Move) → List·Memᴰ m (s .moves) → Moved W t m
       moved m h =
           let M : Moved W s m = I .moved m h in
-          record {
-            object = M .object;
-            old = M .old;
-            reached = live-map take-stays (M .reached);
-            planted = M .planted;
-            fresh = M .fresh;
-            label = new-up (pageOf W (m .to)) (M .label);
-            fits = M .fits;
-            below = λ q. absurd (not-page (pageOf W (m .to)) (new-used (pageOf W (m .to)) (M .label)) q);
-          }
+          moved-on W s t m M take-stays (M .planted) (new-up (pageOf W (m .to)) (M .label)) (λ q. absurd (not-page (pageOf W (m .to)) (new-used (pageOf W (m .to)) (M .label)) q))
 
       go : (a b i : ℕ) → (at (s .heap) (b + i) ≡ at (W .heap) (a + i)) ⊎ Becomes (Kept W s) (at (W .heap) (a + i)) (at (s .heap) (b + i))
           → (at (s .heap) (b + i) ≡ at (W .heap) (a + i)) ⊎ Becomes (Kept W t) (at (W .heap) (a + i)) (at (s .heap) (b + i))

@@ -1,32 +1,35 @@
 -- The pages that an accepted collection takes: they were free, each is taken once, and they are no more than the words on pages
--- that no hint names may need.
+-- that no hint names may need. All that were free are taken before a page is kept, and where there are as many none is.
 use mathlib.Core.Path.{_≡_, sym, ap, _∙_}
 use mathlib.Core.Logic.{_⊎_, inl, inr}
-use mathlib.Core.List.{List}
-use Prim.Native.Nat.{ℕ, _+_, _≤_, _<_}
+use mathlib.Core.List.{List, [], List·Memᴰ, Memᴰ·cast}
+use Prim.Native.Nat.{ℕ, _+_, _-_, _≤_, _<_}
 use native.Mathlib.Nat.{le-trans}
+use native.Mathlib.Decide.{decLt}
 use native.Mathlib.Omega.{arith}
 use lib.ListN.{length, drop, length-drop}
-use lib.Seq.{getD-drop}
+use lib.Seq.{getD-take, getD-drop, length-take-le}
 use Rattle.rules.specs.Ranges.{at}
 use Rattle.rules.specs.Pages.{otherLabel}
 use Rattle.rules.specs.Lent.{Lent}
 use Rattle.rules.specs.Sound.{Sound}
-use Rattle.rules.specs.Collection.{State, planOf, collection}
+use Rattle.rules.specs.Collection.{State, planOf, unkeptPages, keptPages, collection}
 use Rattle.rules.specs.Collect.{neededFor}
 use Rattle.rules.specs.Demands.{FindsPages}
-use Rattle.theory.specs.Sums.{mem-at}
-use Rattle.theory.specs.World.{World}
-use Rattle.theory.specs.Packs.{packs-few}
+use Rattle.laws.specs.FreePages.{freePages}
+use Rattle.theory.specs.Sums.{mem-at, at-mem}
+use Rattle.theory.specs.KeptPages.{kept-none, kept-length, kept-at}
+use Rattle.theory.specs.World.{World, LabelledOrKept}
+use Rattle.theory.specs.Packs.{packs-within, packs-few}
 use Rattle.theory.specs.Good.{Grow, grow-trans}
 use Rattle.theory.specs.Accept.{Accepted}
-use Rattle.theory.specs.SoundHeap.{other≢label, words-are}
+use Rattle.theory.specs.SoundHeap.{other≢0, other≢label, words-are}
 use Rattle.laws.specs.Valid.{label-pos}
-use Rattle.theory.specs.FirstState.{p as pagesOf, s as firstOf, H, world, used-kind}
+use Rattle.theory.specs.FirstState.{p as pagesOf, s as firstOf, H, world, labels-length, used-kind, free-stays, free-same-pages}
 use Rattle.theory.specs.Run.{W as worldOf, r as rootedOf, t as sweptOf, roots-done, all-done}
 use Rattle.theory.specs.After.{inv, new-in-use}
 
-module _ (m : Lent) (roots hints : List ℕ) (A : Accepted m roots hints) where
+module _ (m : Lent) (roots hints : List ℕ) (A : Accepted m roots) where
   abbrev S : Sound m
   S = A .sound
 
@@ -49,20 +52,45 @@ module _ (m : Lent) (roots hints : List ℕ) (A : Accepted m roots hints) where
   grown : Grow W (firstOf m roots hints A) s
   grown = grow-trans W (firstOf m roots hints A) (rootedOf m roots hints A .state) s (roots-done m roots hints A .grow) (all-done m roots hints A .grow)
 
-  abbrev pub taken : List ℕ
-  taken = drop (length before) queue
+  -- those kept stand behind them
+  within : s .pages .kept ≤ length queue
+  within = packs-within W s (all-done m roots hints A .good .packs)
 
-  place : (j : ℕ) → at taken j ≡ at queue (length before + j)
-  place j = getD-drop (length before) queue j 0
+  abbrev pub taken : List ℕ
+  taken = drop (length before) (unkeptPages (s .pages))
+
+  unkept-length : length (unkeptPages (s .pages)) ≡ length queue - s .pages .kept
+  unfolding unkeptPages
+  unkept-length = length-take-le (length queue - s .pages .kept) queue (omega arith)
+
+  taken-length : length taken ≡ length queue - s .pages .kept - length before
+  taken-length = length-drop (length before) (unkeptPages (s .pages)) ∙ ap (λ (n : ℕ). n - length before) unkept-length
+
+  place-unkept : (j : ℕ) → j < length taken → length before + j + s .pages .kept < length queue
+  place-unkept j h = omega (arith, taken-length)
 
   place-inside : (j : ℕ) → j < length taken → length before + j < length queue
-  place-inside j h = omega (arith, length-drop (length before) queue, grown .longer)
+  place-inside j h = omega (arith, place-unkept j h)
+
+  place : (j : ℕ) → j < length taken → at taken j ≡ at queue (length before + j)
+  unfolding unkeptPages
+  place j h = getD-drop (length before) (unkeptPages (s .pages)) j 0 ∙ getD-take (length queue - s .pages .kept) queue (length before + j) 0 (omega (arith, place-unkept j h))
 
   queue-new : (j : ℕ) → j < length queue → at (s .pages .labels) (at queue j) ≡ new
   unfolding world planOf
   queue-new j h = all-done m roots hints A .good .lined .queued .only j h
 
-  -- a page of the queue behind those of the hints was free
+  -- a page that was taken is not kept
+  not-kept : (j : ℕ) → j < length taken → List·Memᴰ (at taken j) (keptPages (s .pages)) → ⊥
+  not-kept j h k =
+      let (i, lt, e) = mem-at (keptPages (s .pages)) (at taken j) k in
+      let len : length (keptPages (s .pages)) ≡ s .pages .kept = kept-length (s .pages) within in
+      let z : length queue - s .pages .kept + i ≡ length before + j =
+      all-done m roots hints A .good .lined .queued .once (length queue - s .pages .kept + i) (length before + j) (omega (arith, within)) (place-inside j h)
+      (sym (kept-at (s .pages) i) ∙ e ∙ place j h) in
+      omega (arith, place-unkept j h)
+
+  -- a page of the queue behind those of the hints, and not kept, was free
   was-free : (j : ℕ) → j < length taken → at (m .labels) (at taken j) ≡ 0
   unfolding world planOf
   was-free j h = go (S .labels g)
@@ -71,14 +99,18 @@ module _ (m : Lent) (roots hints : List ℕ) (A : Accepted m roots hints) where
       g = at taken j
 
       label : at (s .pages .labels) g ≡ new
-      label = ap (at (s .pages .labels)) (place j) ∙ queue-new (length before + j) (place-inside j h)
+      label = ap (at (s .pages .labels)) (place j h) ∙ queue-new (length before + j) (place-inside j h)
 
       used : (at (pagesOf m roots hints A .labels) g ≡ m .rec .label) ⊎ (at (pagesOf m roots hints A .labels) g ≡ new) → ⊥
-      used (inl e) = other≢label m S (sym label ∙ inv m roots hints A .used g (λ q. label-pos m (S .valid) (sym e ∙ q)) ∙ e)
+      used (inl e) = old (inv m roots hints A .used g (λ q. label-pos m (S .valid) (sym e ∙ q)))
+        where
+          old : LabelledOrKept W s g → ⊥
+          old (inl q) = other≢label m S (sym label ∙ q ∙ e)
+          old (inr k) = not-kept j h (k .listed)
       used (inr e) =
           let (i, lt, q) = H m roots hints A .queued .all g e in
           let z : i ≡ length before + j = all-done m roots hints A .good .lined .queued .once i (length before + j) (le-trans lt (grown .longer)) (place-inside j h)
-          (grown .prefix i lt ∙ q ∙ place j) in
+          (grown .prefix i lt ∙ q ∙ place j h) in
           omega arith
 
       go : (at (m .labels) g ≡ 0) ⊎ (at (m .labels) g ≡ m .rec .label) → at (m .labels) g ≡ 0
@@ -89,7 +121,7 @@ module _ (m : Lent) (roots hints : List ℕ) (A : Accepted m roots hints) where
   unfolding world planOf
   taken-words =
       let G = all-done m roots hints A .good in
-      rw (← words-are m hints) (omega (arith, length-drop (length before) queue, G .packs .joined, packs-few W s (G .inv) (G .packs) (G .filled)))
+      rw (← words-are m hints) (omega (arith, taken-length, G .packs .joined, packs-few W s (G .inv) (G .packs) (G .filled)))
 
   pub finds : FindsPages m roots hints taken
   unfolding collection planOf
@@ -97,12 +129,57 @@ module _ (m : Lent) (roots hints : List ℕ) (A : Accepted m roots hints) where
     free = λ g mem. let (j, lt, e) = mem-at taken g mem in free g j lt e;
     distinct = λ i j hi hj e.
         let z : length before + i ≡ length before + j =
-        all-done m roots hints A .good .lined .queued .once (length before + i) (length before + j) (place-inside i hi) (place-inside j hj) (sym (place i) ∙ e ∙ place j) in
+        all-done m roots hints A .good .lined .queued .once (length before + i) (length before + j) (place-inside i hi) (place-inside j hj) (sym (place i hi) ∙ e ∙ place j hj) in
         omega arith;
     few = taken-words;
   }
     where
       free : (g j : ℕ) → j < length taken → at taken j ≡ g → (1 ≤ g) × (g < m .rec .pages) × (at (m .labels) g ≡ 0)
       free g j lt e =
-          let u = new-in-use m roots hints A g (ap (at (s .pages .labels)) (sym e ∙ place j) ∙ queue-new (length before + j) (place-inside j lt)) in
+          let u = new-in-use m roots hints A g (ap (at (s .pages .labels)) (sym e ∙ place j lt) ∙ queue-new (length before + j) (place-inside j lt)) in
           (u .low, u .high, ap (at (m .labels)) (sym e) ∙ was-free j lt)
+
+  -- where a page is kept, each page that was free is taken
+  pub free-taken : 0 < s .pages .kept → (g : ℕ) → 1 ≤ g → g < m .rec .pages → at (m .labels) g ≡ 0 → List·Memᴰ g taken
+  unfolding world planOf
+  free-taken pos g low high e = then (inv m roots hints A .free g fresh)
+    where
+      fresh : at (W .labels) g ≡ 0
+      fresh = free-stays m roots hints A g e
+
+      -- it is in the queue, behind the hinted ones and before the kept ones
+      queued : (j : ℕ) × (j < length queue) × (at queue j ≡ g) → List·Memᴰ g taken
+      queued (j, lt, q) = Memᴰ·cast (sym here) (at-mem taken (j - length before) inside)
+        where
+          behind : length before ≤ j
+          behind = go (decLt j (length before))
+            where
+              go : Dec (j < length before) → length before ≤ j
+              go (no n) = omega arith
+              go (yes l) = absurd (other≢0 m S (sym (H m roots hints A .queued .only j l) ∙ ap (at (W .labels)) (sym (grown .prefix j l) ∙ q) ∙ fresh))
+
+          unkept : j + s .pages .kept < length queue
+          unkept = go (decLt (j + s .pages .kept) (length queue))
+            where
+              go : Dec (j + s .pages .kept < length queue) → j + s .pages .kept < length queue
+              go (yes l) = l
+              go (no n) =
+                  let i : ℕ = j - (length queue - s .pages .kept) in
+                  let lt′ : i < length (keptPages (s .pages)) = omega (arith, kept-length (s .pages) within, within) in
+                  let z : at (keptPages (s .pages)) i ≡ g = kept-at (s .pages) i ∙ ap (at queue) (omega (arith, within)) ∙ q in
+                  absurd (label-pos m (S .valid) (sym (inv m roots hints A .kept g (Memᴰ·cast (sym z) (at-mem (keptPages (s .pages)) i lt′)) .old) ∙ fresh))
+
+          inside : j - length before < length taken
+          inside = omega (arith, taken-length, unkept, behind)
+
+          here : at taken (j - length before) ≡ g
+          here = place (j - length before) inside ∙ ap (at queue) (omega (arith, behind)) ∙ q
+
+      then : (at (s .pages .labels) g ≡ 0) ⊎ (at (s .pages .labels) g ≡ new) → List·Memᴰ g taken
+      then (inl z) = absurd (all-done m roots hints A .good .causes .full pos g low (omega (arith, W .high, labels-length m roots hints A)) z)
+      then (inr z) = queued (all-done m roots hints A .good .lined .queued .all g z)
+
+  -- where as many pages are free as the words may need, none is kept
+  pub none-kept : neededFor m hints ≤ freePages (m .labels) 1 (m .rec .pages) → keptPages (s .pages) ≡ []
+  unfolding world planOf
+  none-kept h = kept-none (s .pages) (all-done m roots hints A .good .packs .unkept (rw (words-are m hints, free-same-pages m roots hints A) h))

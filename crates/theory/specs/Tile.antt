@@ -1,5 +1,6 @@
 -- Places tile the pages in use from their first words on, and only zeros stand behind the last; the queue holds each page with
--- the new label once, the copy page last. A page taken, an object put and a reference stored keep both.
+-- the new label once, the copy page last as long as no page is kept. A page taken, an object put, a page kept and a reference stored keep
+-- both.
 use mathlib.Core.Path.{_≡_, refl, sym, ap, _∙_, subst}
 use mathlib.Core.Logic.{_≢_, _⊎_, inl, inr}
 use mathlib.Core.List.{List, [], _∷_}
@@ -11,14 +12,15 @@ use lib.ListN.{length, set, length-append}
 use lib.Seq.{getD-set-same, getD-set-other, getD-append-seam}
 use Rattle.rules.specs.Ranges.{at}
 use Rattle.rules.specs.Pages.{lowestFree}
-use Rattle.rules.specs.Collection.{State, takePage, top, put}
+use Rattle.rules.specs.Collection.{State, onPages, takePage, top, put, keepPage}
 use Rattle.laws.specs.Pages.{same-page}
 use Rattle.laws.specs.FreePages.{Lowest}
 use Rattle.theory.specs.Queue.{Queued, join}
 use Rattle.theory.specs.World.{pageOf, labelOf, sizeAt, World, Place, home, away, kept-place, Region, Inv}
 use Rattle.theory.specs.Places.{SameOrApart, some-words, kept-obj, kept-fits, place-used, place-apart}
 use Rattle.theory.specs.Put.{Ready, copy-label, top-page, put-out, put-else, place-up, place-split, mem-new}
-use Rattle.theory.specs.Take.{onPages, page-inside, not-page}
+use Rattle.theory.specs.Take.{page-inside, not-page}
+use Rattle.theory.specs.Keep.{page-inside as kept-inside, new-up, free-else, free-up}
 use Rattle.theory.specs.Store.{stored, Slot, index-inside, slot-region, stored-else, place-up as store-place, place-back as store-back}
 
 -- what comes behind a place on page g that ends at z
@@ -43,12 +45,12 @@ pub record Tiled (W : World) (s : State) : Type 0 where
 
 pub record Lined (W : World) (s : State) : Type 0 where
   pub queued : Queued (W .plan .new) (s .pages .labels) (s .pages .queue)
-  -- copies go to the last page of the queue
-  pub last : s .pages .fill < W .plan .page → (l : ℕ) × (length (s .pages .queue) ≡ suc l) × (at (s .pages .queue) l ≡ s .pages .copy)
+  -- copies go to the last page of the queue, as long as there are any
+  pub last : s .pages .kept ≡ 0 → s .pages .fill < W .plan .page → (l : ℕ) × (length (s .pages .queue) ≡ suc l) × (at (s .pages .queue) l ≡ s .pages .copy)
 
 -- ---- a page taken
 
-module _ (W : World) (s : State) (I : Inv W s) (L : Lowest (s .pages .labels) (W .plan .lo) (W .plan .hi)) where
+module _ (W : World) (s : State) (I : Inv W s) (unkept : s .pages .kept ≡ 0) (L : Lowest (s .pages .labels) (W .plan .lo) (W .plan .hi)) where
   abbrev g : ℕ
   g = lowestFree (s .pages .labels) (W .plan .lo) (W .plan .hi)
 
@@ -75,14 +77,14 @@ module _ (W : World) (s : State) (I : Inv W s) (L : Lowest (s .pages .labels) (W
     first = λ h e. begins h (ℕ-discrete h g) e;
     copyBlank = λ w e l. T .freeBlank w (ap (at (s .pages .labels)) e ∙ L .free);
     freeBlank = λ w e. T .freeBlank w (was-free w e (ℕ-discrete (pageOf W w) g));
-    copyIs = inr (getD-set-same (s .pages .labels) g (W .plan .new) 0 (page-inside W s I L));
+    copyIs = inr (getD-set-same (s .pages .labels) g (W .plan .new) 0 (page-inside W s I unkept L));
     page0 = getD-set-other (s .pages .labels) g 0 (W .plan .new) 0 (λ q. omega (arith, W .low, L .low)) ∙ T .page0;
   }
     where
       next : (x y : ℕ) → labelOf W s y ≢ 0 → Next W s (pageOf W y) (y + sizeAt W x) → Next W t (pageOf W y) (y + sizeAt W x)
       next x y lc (another x′ k e) = another x′ (take-place _ _ k) e
       next x y lc (full e) = full e
-      next x y lc (blank z q) = blank z (λ e. absurd (not-page W s I L (pageOf W y) lc e))
+      next x y lc (blank z q) = blank z (λ e. absurd (not-page W s I unkept L (pageOf W y) lc e))
 
       begins : (h : ℕ) → Dec (h ≡ g) → at ls h ≢ 0 → Begins W t h
       begins h (yes q) e = inr (q, refl)
@@ -99,8 +101,8 @@ module _ (W : World) (s : State) (I : Inv W s) (L : Lowest (s .pages .labels) (W
   pub take-lined : Lined W s → Lined W t
   unfolding takePage
   take-lined Q = record {
-    queued = join (W .plan .new) (s .pages .labels) (s .pages .queue) g (page-inside W s I L) (λ q. W .new≢0 (sym q ∙ L .free)) (Q .queued);
-    last = λ h. (length (s .pages .queue), length-append (s .pages .queue) (g ∷ []) ∙ omega arith, getD-append-seam (s .pages .queue) g [] 0);
+    queued = join (W .plan .new) (s .pages .labels) (s .pages .queue) g (page-inside W s I unkept L) (λ q. W .new≢0 (sym q ∙ L .free)) (Q .queued);
+    last = λ u h. (length (s .pages .queue), length-append (s .pages .queue) (g ∷ []) ∙ omega arith, getD-append-seam (s .pages .queue) g [] 0);
   }
 
 -- ---- an object put
@@ -166,7 +168,55 @@ module _ (W : World) (s : State) (x : ℕ) (R : Ready W s x) where
 
   pub put-lined : Lined W s → Lined W s′
   unfolding put
-  put-lined Q = record { queued = Q .queued; last = λ h. Q .last (omega arith) }
+  put-lined Q = record { queued = Q .queued; last = λ u h. Q .last u (omega arith) }
+
+-- ---- a page kept
+
+module _ (W : World) (s : State) (I : Inv W s) (x : ℕ) (ob : W .Obj x) (old : labelOf W s x ≡ W .plan .old) (within : s .pages .kept ≤ length (s .pages .queue)) where
+  abbrev k′ : State
+  k′ = onPages s (keepPage (W .plan) (pageOf W x) (s .pages))
+
+  keep-place : (a b : ℕ) → Place W s a b → Place W k′ a b
+  unfolding keepPage
+  keep-place a b (home ob e) = home ob e
+  keep-place a b (away m mem ea eb) = away m mem ea eb
+
+  keep-back : (a b : ℕ) → Place W k′ a b → Place W s a b
+  unfolding keepPage
+  keep-back a b (home ob e) = home ob e
+  keep-back a b (away m mem ea eb) = away m mem ea eb
+
+  pub keep-tiled : Tiled W s → Tiled W k′
+  unfolding keepPage top
+  keep-tiled T = record {
+    next = λ a b k. next a b (T .next a b (keep-back a b k));
+    first = λ h e. begins h (T .first h (λ z. e (free-up W s I x ob old within h z)));
+    copyBlank = T .copyBlank;
+    freeBlank = λ w e. T .freeBlank w (free-else W s I x ob old within (pageOf W w) e);
+    copyIs = copy (T .copyIs);
+    page0 = free-up W s I x ob old within 0 (T .page0);
+  }
+    where
+      next : (a b : ℕ) → Next W s (pageOf W b) (b + sizeAt W a) → Next W k′ (pageOf W b) (b + sizeAt W a)
+      next a b (another a′ k e) = another a′ (keep-place _ _ k) e
+      next a b (full e) = full e
+      next a b (blank z q) = blank z q
+
+      begins : (h : ℕ) → Begins W s h → Begins W k′ h
+      begins h (inl (a, k)) = inl (a, keep-place a (h * W .plan .page) k)
+      begins h (inr z) = inr z
+
+      copy : ((s .pages .copy ≡ 0) × (s .pages .fill ≡ W .plan .page)) ⊎ (at (s .pages .labels) (s .pages .copy) ≡ W .plan .new)
+          → ((s .pages .copy ≡ 0) × (s .pages .fill ≡ W .plan .page)) ⊎ (at (set (s .pages .labels) (pageOf W x) (W .plan .new)) (s .pages .copy) ≡ W .plan .new)
+      copy (inl z) = inl z
+      copy (inr e) = inr (new-up W s I x ob old within (s .pages .copy) e)
+
+  pub keep-lined : Lined W s → Lined W k′
+  unfolding keepPage
+  keep-lined Q = record {
+    queued = join (W .plan .new) (s .pages .labels) (s .pages .queue) (pageOf W x) (kept-inside W s I x ob old within) (λ q. W .new≢old (sym q ∙ old)) (Q .queued);
+    last = λ u h. absurd (omega arith);
+  }
 
 -- ---- a reference stored
 

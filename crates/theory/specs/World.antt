@@ -1,7 +1,7 @@
 -- What the proof of a collection sees of the heap before, and the invariant of forwarding roots and sweeping.
 -- The heap before is seen through an interface only: which addresses are objects and which are roots; never through a walk.
 -- In this crate an object's header is its word 0, its references are words 1 to p, and its data words come after them.
-use mathlib.Core.Path.{_≡_}
+use mathlib.Core.Path.{_≡_, sym, ap, _∙_, subst}
 use mathlib.Core.Logic.{_≢_, _⊎_, inl, inr}
 use mathlib.Core.Bool.{true}
 use mathlib.Core.List.{List, List·Memᴰ}
@@ -9,7 +9,7 @@ use Prim.Native.Nat.{ℕ, _+_, _*_, _/_, _%_, _≤_, _<_}
 use lib.ListN.{length}
 use Rattle.rules.specs.Ranges.{at, sum}
 use Rattle.rules.specs.Header.{refsOf}
-use Rattle.rules.specs.Collection.{Move, Plan, State, top}
+use Rattle.rules.specs.Collection.{Move, Plan, State, top, keptPages}
 use Rattle.rules.specs.Demands.{Becomes}
 use Rattle.laws.specs.Walk.{size}
 
@@ -86,7 +86,7 @@ NotGone s x = (m : Move) → List·Memᴰ m (s .moves) → m .from ≢ x
 abbrev pub AsBefore : World → State → ℕ → Type 0
 AsBefore W s x = (i : ℕ) → i < sizeAt W x → at (s .heap) (x + i) ≡ at (W .heap) (x + i)
 
--- it is where it was, on a page with the new label
+-- it is where it was, on a page with the new label: one that was hinted, or is kept for want of room
 pub record Stays (W : World) (s : State) (x : ℕ) : Type 0 where
   pub object : W .Obj x
   pub label : labelOf W s x ≡ W .plan .new
@@ -141,11 +141,45 @@ pub record Moved (W : World) (s : State) (m : Move) : Type 0 where
   pub fits : m .to % W .plan .page + sizeAt W (m .from) ≤ W .plan .page
   pub below : pageOf W (m .to) ≡ s .pages .copy → m .to + sizeAt W (m .from) ≤ top (W .plan) (s .pages)
 
+-- it stays one in a later state: what it is of the object stays, and so is what it tells of place and copy to be shown
+pub moved-on : (W : World) (s t : State) (m : Move) → Moved W s m → ((x : ℕ) → Stays W s x → Stays W t x) → at (t .heap) (m .from) ≡ 2 * m .to
+    → labelOf W t (m .to) ≡ W .plan .new → (pageOf W (m .to) ≡ t .pages .copy → m .to + sizeAt W (m .from) ≤ top (W .plan) (t .pages)) → Moved W t m
+moved-on W s t m M stays planted label below = record {
+  object = M .object;
+  reached = live-map stays (M .reached);
+  old = M .old;
+  planted = planted;
+  fresh = M .fresh;
+  label = label;
+  fits = M .fits;
+  below = below;
+}
+
+-- page g is kept for want of room
+pub record KeptPage (W : World) (s : State) (g : ℕ) : Type 0 where
+  pub listed : List·Memᴰ g (keptPages (s .pages))
+  pub old : at (W .labels) g ≡ W .plan .old
+  pub label : at (s .pages .labels) g ≡ W .plan .new
+
+-- it has the label that the hints left, or is kept
+abbrev pub LabelledOrKept : World → State → ℕ → Type 0
+LabelledOrKept W s g = (at (s .pages .labels) g ≡ at (W .labels) g) ⊎ KeptPage W s g
+
+-- both stay where labels and kept pages do
+module _ (W : World) (s t : State) (labels : t .pages .labels ≡ s .pages .labels) (pages : keptPages (t .pages) ≡ keptPages (s .pages)) where
+  pub kept-same : (g : ℕ) → KeptPage W s g → KeptPage W t g
+  kept-same g k = record { listed = subst (List·Memᴰ g) (sym pages) (k .listed); old = k .old; label = ap (λ (l : List ℕ). at l g) labels ∙ k .label }
+
+  pub labelled-same : (g : ℕ) → LabelledOrKept W s g → LabelledOrKept W t g
+  labelled-same g (inl e) = inl (ap (λ (l : List ℕ). at l g) labels ∙ e)
+  labelled-same g (inr k) = inr (kept-same g k)
+
 pub record Inv (W : World) (s : State) : Type 0 where
   pub heapLength : length (s .heap) ≡ length (W .heap)
   pub labelsLength : length (s .pages .labels) ≡ length (W .labels)
-  -- pages in use keep their labels; a free page stays free or is taken
-  pub used : (g : ℕ) → at (W .labels) g ≢ 0 → at (s .pages .labels) g ≡ at (W .labels) g
+  -- pages in use keep their labels, or are kept; a free page stays free or is taken
+  pub used : (g : ℕ) → at (W .labels) g ≢ 0 → LabelledOrKept W s g
+  pub kept : (g : ℕ) → List·Memᴰ g (keptPages (s .pages)) → KeptPage W s g
   pub free : (g : ℕ) → at (W .labels) g ≡ 0 → (at (s .pages .labels) g ≡ 0) ⊎ (at (s .pages .labels) g ≡ W .plan .new)
   -- the copy page was free, and has the new label where there is room on it
   pub copyFresh : at (W .labels) (s .pages .copy) ≡ 0

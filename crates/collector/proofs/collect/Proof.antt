@@ -15,7 +15,7 @@ abbrev memory : (c : tie.Start) → Lent
 memory c = lent (c .args .heap .now) (c .args .labels .now) (c .args .links .now) (c .args .r)
 
 -- the tests passed
-passed : (c : tie.Else1) → refusalOfCollect (memory (c .before .before .before .before .before .before .before .before .before .before .before)) (c .before .before .before .before .before .before .before .before .before .before .before .args .roots .now) (c .before .before .before .before .before .before .before .before .before .before .before .args .hints .now) ≡ 0
+passed : (c : tie.Else1) → refusalOfCollect (memory (c .before .before .before .before .before .before .before .before .before .before .before)) (c .before .before .before .before .before .before .before .before .before .before .before .args .roots .now) ≡ 0
 passed c = sym (c .before .refusal .ensures) ∙ c .if1 .left
 
 refusal-requires : tie.Need-refusal-requires
@@ -40,7 +40,7 @@ returns : tie.Need-returns
 returns c = c .refused .ensures _ _ _ _ ∙ rw (c .before .before .refusal .ensures) (sym (collect-refuses (memory (c .before .before .before .before .before .before .before .before .before .before .before .before)) (c .before .before .before .before .before .before .before .before .before .before .before .before .args .roots .now) (c .before .before .before .before .before .before .before .before .before .before .before .before .args .hints .now) (λ z. c .before .if1 .taken (c .before .before .refusal .ensures ∙ z))))
 
 run-requires : tie.Need-run-requires
-run-requires c κs = (valid-layout (memory (c .before .before .before .before .before .before .before .before .before .before .before .before .before .before .before)) (accepted (memory (c .before .before .before .before .before .before .before .before .before .before .before .before .before .before .before)) _ _ (passed (c .before .before .before .before)) .sound .valid), collect-safe (memory (c .before .before .before .before .before .before .before .before .before .before .before .before .before .before .before)) _ _ (passed (c .before .before .before .before)))
+run-requires c κs = (valid-layout (memory (c .before .before .before .before .before .before .before .before .before .before .before .before .before .before .before)) (accepted (memory (c .before .before .before .before .before .before .before .before .before .before .before .before .before .before .before)) _ (passed (c .before .before .before .before)) .sound .valid), collect-safe (memory (c .before .before .before .before .before .before .before .before .before .before .before .before .before .before .before)) _ _ (passed (c .before .before .before .before)))
 
 same-length-5 : tie.Need-same-length-5
 same-length-5 c = search needs

@@ -9,7 +9,7 @@ use Rattle.collector.proofs.refusal.Statement.{statement}
 use Rattle.collector.proofs.refusal.Tie as tie
 
 -- each test that passed
-valid : (c : tie.Else1) → isValid (lent (c .before .before .before .before .before .before .before .args .heap .now) (c .before .before .before .before .before .before .before .args .labels .now) (c .before .before .before .before .before .before .before .args .links .now) (c .before .before .before .before .before .before .before .args .r)) ≡ true
+valid : (c : tie.Else1) → isValid (lent (c .before .before .before .before .before .before .args .heap .now) (c .before .before .before .before .before .before .args .labels .now) (c .before .before .before .before .before .before .args .links .now) (c .before .before .before .before .before .before .args .r)) ≡ true
 valid c = sym (c .before .is-valid .ensures) ∙ not-false _ (c .if1 .left)
 
 is-valid-requires : tie.Need-is-valid-requires
@@ -31,18 +31,11 @@ are-roots-good-requires c κs = search needs
 
 returns-3 : tie.Need-returns-3
 unfolding refusalOfCollect
-returns-3 c = rw ((valid (c .before .before .before .before)), sym (c .before .before .before .is-sound .ensures) ∙ not-false _ (c .before .before .if2 .left), sym (c .before .are-roots-good .ensures (c .before .before .before .before .before .before .before .before .before .before .before .args .links .now)) ∙ not-true _ (c .if3 .taken))
-
-has-room-requires : tie.Need-has-room-requires
-has-room-requires c κs = valid (c .before .before .before .before)
+returns-3 c = rw ((valid (c .before .before .before .before)), sym (c .before .before .before .is-sound .ensures) ∙ not-false _ (c .before .before .if2 .left), sym (c .before .are-roots-good .ensures (c .before .before .before .before .before .before .before .before .before .before .args .links .now)) ∙ not-true _ (c .if3 .taken))
 
 returns-4 : tie.Need-returns-4
 unfolding refusalOfCollect
-returns-4 c = rw ((valid (c .before .before .before .before .before .before)), sym (c .before .before .before .before .before .is-sound .ensures) ∙ not-false _ (c .before .before .before .before .if2 .left), sym (c .before .before .before .are-roots-good .ensures (c .before .before .before .before .before .before .before .before .before .before .before .before .before .args .links .now)) ∙ not-false _ (c .before .before .if3 .left), sym (c .before .has-room .ensures) ∙ not-true _ (c .if4 .taken))
-
-returns-5 : tie.Need-returns-5
-unfolding refusalOfCollect
-returns-5 c = rw ((valid (c .before .before .before .before .before .before)), sym (c .before .before .before .before .before .is-sound .ensures) ∙ not-false _ (c .before .before .before .before .if2 .left), sym (c .before .before .before .are-roots-good .ensures (c .before .before .before .before .before .before .before .before .before .before .before .before .before .args .links .now)) ∙ not-false _ (c .before .before .if3 .left), sym (c .before .has-room .ensures) ∙ not-false _ (c .if4 .left))
+returns-4 c = rw ((valid (c .before .before .before .before)), sym (c .before .before .before .is-sound .ensures) ∙ not-false _ (c .before .before .if2 .left), sym (c .before .are-roots-good .ensures (c .before .before .before .before .before .before .before .before .before .before .args .links .now)) ∙ not-false _ (c .if3 .left))
 
 pub refusal-spec : {M : Type 1} → statement M
 refusal-spec =
@@ -54,6 +47,4 @@ refusal-spec =
     returns-2
     are-roots-good-requires
     returns-3
-    has-room-requires
-    returns-4
-    returns-5)
+    returns-4)

@@ -12,12 +12,15 @@ relabelled-requires c κs = search needs
 opening-requires : tie.Need-opening-requires
 opening-requires c κs = search needs
 
-sub-t6 : tie.Need-sub-t6
-sub-t6 c = search needs
+sub-t7 : tie.Need-sub-t7
+sub-t7 c = search needs
+
+sub-t8 : tie.Need-sub-t8
+sub-t8 c = search needs
 
 returns : tie.Need-returns
 returns c = rw (c .before .opening .ensures, c .before .before .relabelled .ensures, c .before .before .before .other-label .ensures)
 
 pub answer-spec : {M : Type 1} → statement M
 answer-spec =
-    tie.close (tie.spec other-label-requires relabelled-requires opening-requires sub-t6 returns)
+    tie.close (tie.spec other-label-requires relabelled-requires opening-requires sub-t7 sub-t8 returns)

@@ -1,0 +1,107 @@
+-- What Q-6 asks, in a user's words: every collection of a sound heap with good roots completes, and refusal 8 never occurs. So a heap is
+-- never stuck: whatever it holds, a collection with nothing in the root cells and no hints leaves every page free.
+use mathlib.Core.Path.{_≡_, sym, _∙_, subst}
+use mathlib.Core.Logic.{_≢_, _⊎_, inl, inr}
+use mathlib.Core.Bool.{Bool, true, false, cond}
+use mathlib.Core.List.{List, [], _∷_, List·Memᴰ, List·Memᴰ·not-nil}
+use Prim.Native.Nat.{ℕ, _<_}
+use native.Mathlib.Omega.{arith}
+use lib.ListN.{length}
+use Rattle.rules.specs.Ranges.{each}
+use Rattle.rules.specs.Pages.{pagesNamed}
+use Rattle.rules.specs.Lent.{Lent, isValid}
+use Rattle.rules.specs.Walk.{isReference}
+use Rattle.rules.specs.Sound.{InUse, IsObject, Sound, isSound}
+use Rattle.rules.specs.Collection.{plainly, collection}
+use Rattle.rules.specs.Collect.{CollectOutcome, refusalOfCollect, collect}
+use Rattle.rules.specs.Demands.{Hinted, Reached, staying, byRoot, byReference, Becomes, Paired, OnHintedOrKept, HoldsCopy, Faithful, GoodRoots}
+use Rattle.laws.specs.Lists.{true-each}
+use Rattle.laws.specs.Valid.{valid-is}
+use Rattle.laws.specs.LookUp.{reference-is}
+use Rattle.laws.specs.Sound.{sound-is}
+use Rattle.laws.specs.Collect.{collect-refusal}
+use Rattle.kept.specs.Accepted.{collect-says}
+use Rattle.theory.specs.Sums.{mem-at}
+use Rattle.theory.specs.SoundHeap.{object-nonzero}
+use Rattle.theory.specs.Collections.{collect-faithful}
+
+member-length : (l : List ℕ) (x : ℕ) → List·Memᴰ x l → 0 < length l
+member-length [] x k = absurd (List·Memᴰ·not-nil k)
+member-length (y ∷ l) x k = omega arith
+
+-- where roots agree under the pairing, they are good afterwards
+paired-roots : {m : Lent} {roots : List ℕ} {Stay : ℕ → Type 0} {o : CollectOutcome} {Pairs : ℕ → ℕ → Type 0} → Paired m roots Stay o Pairs → GoodRoots (o .lent) (o .roots)
+paired-roots {roots = roots} {o = o} {Pairs = Pairs} F r k =
+    let (j, l, e) = mem-at (o .roots) r k in
+    subst (λ (u : ℕ). (u ≡ 0) ⊎ IsObject (o .lent) u) e (good _ _ (F .rootsAgree j (omega (arith, F .rootCells))))
+  where
+    good : (v u : ℕ) → Becomes Pairs v u → (u ≡ 0) ⊎ IsObject (o .lent) u
+    good v u (inl z) = inl (z .1)
+    good v u (inr p) = inr (F .object v u p)
+
+module _ (m : Lent) (roots hints : List ℕ) where
+  -- "every collection of a sound heap with good roots completes"
+  pub completes : Sound m → GoodRoots m roots → collect m roots hints .refusal ≡ 0
+  unfolding refusalOfCollect
+  completes S good =
+      collect-refusal m roots hints
+      ∙ rw (valid-is m (S .valid), sound-is m S, true-each (isReference m) roots (λ r k. reference-is m r (good r k)))
+
+  -- and no other does
+  pub completed-sound : collect m roots hints .refusal ≡ 0 → Sound m
+  completed-sound z = collect-says m roots hints z .sound
+
+  pub completed-roots : collect m roots hints .refusal ≡ 0 → GoodRoots m roots
+  completed-roots z = collect-says m roots hints z .roots
+
+  -- what it leaves has good roots too, so that a program may collect again
+  pub completed-leaves : collect m roots hints .refusal ≡ 0 → GoodRoots (collect m roots hints .lent) (collect m roots hints .roots)
+  completed-leaves z = let (Pairs, F) = collect-faithful m roots hints (sym (collect-refusal m roots hints) ∙ z) in paired-roots (F .paired)
+
+  -- "8 is shown never to occur": of any memory, roots and hints
+  pub never-eight : collect m roots hints .refusal ≢ 8
+  unfolding refusalOfCollect
+  never-eight z = go (isValid m) (isSound m) (each (isReference m) roots) (sym (collect-refusal m roots hints) ∙ z)
+    where
+      go : (v s r : Bool) → _≡_ {A = ℕ} (cond v (cond s (cond r 0 6) 7) 1) 8 → ⊥
+      go true true true q = omega arith
+      go true true false q = omega arith
+      go true false r q = omega arith
+      go false s r q = omega arith
+
+-- ---- "A full heap that can't collect" there is none
+
+-- a collection of m with these root cells, all 0, and no hints
+module _ (m : Lent) (roots : List ℕ) (let-go : (r : ℕ) → List·Memᴰ r roots → r ≡ 0) (S : Sound m) where
+  abbrev o : CollectOutcome
+  o = collect m roots []
+
+  accepts : collect m roots [] .refusal ≡ 0
+  accepts = completes m roots [] S (λ r k. inl (let-go r k))
+
+  -- no page is hinted
+  unhinted : (g : ℕ) → Hinted m [] g → ⊥
+  unfolding pagesNamed
+  unhinted g h = List·Memᴰ·not-nil (h .named)
+
+  -- so nothing is reached but from what stays on kept pages
+  unreached : {kept : List ℕ} {Pairs : ℕ → ℕ → Type 0} → ((g : ℕ) → List·Memᴰ g kept → ⊥) → {x : ℕ} → Reached m roots (OnHintedOrKept m [] kept Pairs) x → ⊥
+  unreached none (staying ob (inl h)) = unhinted _ h
+  unreached none (staying ob (inr q)) = none _ (q .page)
+  unreached none (byRoot {x = x} ob k) = object-nonzero m S x ob (let-go x k)
+  unreached none (byReference z i r h e ob) = unreached none r
+
+  pub comes-free : (g : ℕ) → InUse (collect m roots [] .lent) g → ⊥
+  comes-free g u = let (Pairs, F) = collect-faithful m roots [] (sym (collect-refusal m roots []) ∙ accepts) in free Pairs F
+    where
+      free : (Pairs : ℕ → ℕ → Type 0) → Faithful m roots [] o (collection plainly m roots []) Pairs → ⊥
+      free Pairs F = go (F .pages g u)
+        where
+          -- the first kept page would hold something that is reached without it
+          none : (h : ℕ) → List·Memᴰ h (collection plainly m roots [] .kept) → ⊥
+          none h k = unreached (λ j q. List·Memᴰ·not-nil q) (F .keeps .holds 0 (member-length (collection plainly m roots [] .kept) h k) .2)
+
+          go : Hinted m [] g ⊎ (HoldsCopy m Pairs g ⊎ List·Memᴰ g (collection plainly m roots [] .kept)) → ⊥
+          go (inl h) = unhinted g h
+          go (inr (inl c)) = unreached none (F .paired .only (c .from) (c .to) (c .pair))
+          go (inr (inr k)) = none g k
