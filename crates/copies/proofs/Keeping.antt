@@ -1,18 +1,15 @@
 -- Laws of pages kept for want of room: whether an object can be copied, and what its page does where it can't.
-use mathlib.Core.Path.{_≡_, refl}
-use mathlib.Core.Logic.{_≢_}
-use mathlib.Core.Bool.{Bool, true, false}
+use mathlib.Core.Path.{_≡_}
+use mathlib.Core.Bool.{true, false}
 use mathlib.Core.List.{List, [], _∷_, _++_}
 use Prim.Native.Nat.{ℕ, _+_, _/_, _≤_, _<_}
 use native.Mathlib.Omega.{arith}
-use native.Mathlib.Decide.{ℕ-discrete}
 use lib.ListN.{length, set, take}
-use lib.Seq.{getD-set-same, getD-set-other}
 use lib.Dec.{ltb}
 use borrow.Author.Tests.{eq-eqb, ne-eqb, le-leb, lt-leb}
-use Rattle.rules.specs.Ranges.{at, block, first}
-use Rattle.rules.specs.Pages.{isFree, lowestFree}
+use Rattle.rules.specs.Pages.{lowestFree}
 use Rattle.rules.specs.Collection.{canCopy, keepPage, keepObject}
+use Rattle.laws.specs.FreePages.{lowest-relabelled}
 use Rattle.laws.specs.Safe.{SafeKeep}
 use Rattle.hints.specs.declared.Shape.{Shape}
 use Rattle.hints.specs.Code.{plan}
@@ -38,20 +35,6 @@ module _ (k : Shape) (n : ℕ) (labels links : List ℕ) (g : Gather) where
 
 -- ---- a page kept
 
-first-same : (f e : ℕ → Bool) → ((x : ℕ) → e x ≡ f x) → (xs : List ℕ) (d : ℕ) → first e xs d ≡ first f xs d
-unfolding first
-first-same f e h [] d = refl
-first-same f e h (x ∷ xs) d = rw (h x, first-same f e h xs d)
-
--- a page in use gets another label: the same page is the lowest free one
-lowest-same : (labels : List ℕ) (q new lo hi : ℕ) → at labels q ≢ 0 → new ≢ 0 → q < length labels → lowestFree (set labels q new) lo hi ≡ lowestFree labels lo hi
-unfolding lowestFree isFree
-lowest-same labels q new lo hi used nz p = first-same (isFree labels) (isFree (set labels q new)) (λ x. go x (ℕ-discrete x q)) (block lo hi) hi
-  where
-    go : (x : ℕ) → Dec (x ≡ q) → isFree (set labels q new) x ≡ isFree labels x
-    go x (yes d) = rw (d, getD-set-same labels q new 0 p, ne-eqb new 0 nz, ne-eqb (at labels q) 0 used)
-    go x (no d) = rw (getD-set-other labels q x new 0 d)
-
 -- the page of the object at x is kept
 module _ (k : Shape) (labels links : List ℕ) (g : Gather) (x : ℕ) (S : SafeKeep (plan k) (x / k .page) (pagesOf labels links g)) (T : Tied k labels links g) where
   -- there is a place in the queue, and in what counts the pages kept
@@ -70,5 +53,5 @@ module _ (k : Shape) (labels links : List ℕ) (g : Gather) (x : ℕ) (S : SafeK
     pub keep-tied : x / k .page < length labels → Queued labels′ links′ (g .tail + 1) → Tied k labels′ links′ (keeping g)
     keep-tied p Q = record {
       queued = Q;
-      cursor = rw (l, lowest-same labels (x / k .page) (k .new) (g .cursor) (k .pages) (S .used) (S .new) p, lowest-same labels (x / k .page) (k .new) 1 (k .pages) (S .used) (S .new) p) (T .cursor);
+      cursor = rw (l, lowest-relabelled labels (x / k .page) (k .new) (g .cursor) (k .pages) (S .used) (S .new) p, lowest-relabelled labels (x / k .page) (k .new) 1 (k .pages) (S .used) (S .new) p) (T .cursor);
     }

@@ -1,8 +1,8 @@
 -- Laws of the filling: the places of a page, the pages that were kept. Each loop carries what is left to do, which gives what there
 -- was to do at first, and that it is safe. The code counts the places that the definition lists.
 use mathlib.Core.Path.{_≡_, refl, sym, _∙_}
-use mathlib.Core.Bool.{Bool, true, false, cond}
-use mathlib.Core.List.{List, [], _∷_, _++_, append-nil, append-assoc}
+use mathlib.Core.Bool.{true, false}
+use mathlib.Core.List.{List, [], _∷_, _++_, append-nil}
 use Prim.Native.Nat.{ℕ, zero, suc, _+_, _-_, _*_, _≤_, _<_}
 use native.Mathlib.Omega.{arith}
 use native.Mathlib.Numerals.{add-one}
@@ -10,15 +10,13 @@ use lib.ListN.{length, take, drop, length-append, drop-of-length-le}
 use lib.Seq.{sets, drop-cons, getD-take}
 use Rattle.rules.specs.Ranges.{at}
 use Rattle.rules.specs.Header.{sizeOf, isHeader}
-use Rattle.rules.specs.Collection.{Filled, isLeft, sizeAtCopy, filler, fillPlace, fillPage, fillPages}
+use Rattle.rules.specs.Collection.{Filled, isLeft, filler, fillPlace, fillPage, fillPages}
 use Rattle.laws.specs.Headers.{Header, header-says, header-full, left-full}
+use Rattle.laws.specs.Fills.{filledOf, page-after}
 use Rattle.laws.specs.Safe.{SafeStep, SafeFill, SafeFills}
 use Rattle.hints.specs.Queue.{queue-length}
 use Rattle.fillers.specs.Places.{LeftBy, Turns, turns-none, turns-on}
 use Rattle.fillers.specs.Code.{FilledAs}
-
-abbrev pub filledOf : List ℕ → List ℕ → Filled
-filledOf h places = record { heap = h; places = places }
 
 -- ---- the places of a page, from address x to the page's end e, after n fillers
 
@@ -88,23 +86,6 @@ module _ (e : ℕ) (goal : Filled) (h : List ℕ) (n x : ℕ) (F : Filling e goa
     filling-place m y L t q = rw q (place-go (F .f) (F .room) m (F .turns) (F .same) (F .safe) y L)
 
 -- ---- the pages kept, the links from the i-th up to the tail, after n fillers
-
--- what a page gets does not hang on the places before it
-abbrev after : List ℕ → Filled → Filled
-after l s = filledOf (s .heap) (l ++ s .places)
-
-after-cond : (l : List ℕ) (b : Bool) (s t s′ t′ : Filled) → s ≡ after l s′ → t ≡ after l t′ → cond b s t ≡ after l (cond b s′ t′)
-after-cond l true s t s′ t′ p q = p
-after-cond l false s t s′ t′ p q = q
-
-page-after : (f a room : ℕ) (h l p : List ℕ) → fillPage f a room (filledOf h (l ++ p)) ≡ after l (fillPage f a room (filledOf h p))
-unfolding fillPage fillPlace
-page-after zero a room h l p = refl
-page-after (suc f) a room h l p =
-    let w = at h a in
-    let c = sizeAtCopy h w in
-    after-cond l (isHeader w room) _ _ _ _ (page-after f (a + sizeOf w) (room - sizeOf w) h l p)
-    (after-cond l (isLeft w room) _ _ _ _ (rw (append-assoc l p (a ∷ [])) (page-after f (a + c) (room - c) (sets h a (filler c)) l (p ++ (a ∷ [])))) refl)
 
 pub record Fillings (P : ℕ) (goal : Filled) (pages h : List ℕ) (n : ℕ) : Type 0 where
   pub places : List ℕ

@@ -1,4 +1,4 @@
-// The words of an object, put down.
+// The words of an object, put down: by allocate, and by a collection for its fillers (`fillers`). This is no call for users.
 use numbers::header;
 ghost use mathlib.Core.Path.{_≡_};
 ghost use mathlib.Core.List.{_∷_};

@@ -11,23 +11,20 @@ use lib.Dec.{leb, ltb}
 use borrow.Author.Tests.{leb-true, leb-false, ltb-true}
 use Rattle.rules.specs.declared.Found.the-variants.{Start}
 use Rattle.rules.specs.Tests.{and-left, and-right}
-use Rattle.rules.specs.Ranges.{at, each}
+use Rattle.rules.specs.Ranges.{at}
 use Rattle.rules.specs.Header.{sizeOf, refsOf}
 use Rattle.rules.specs.Pages.{pageAtStart, pagesUsed}
 use Rattle.rules.specs.Lent.{Lent, isLaid, isValid}
 use Rattle.rules.specs.Walk.{isReference, found}
-use Rattle.rules.specs.Sound.{IsObject, refs, payload, Valid, isSound, Sound}
+use Rattle.rules.specs.Sound.{IsObject, refs, payload, Valid}
 use Rattle.rules.specs.Calls.{Outcome, refused, inside, accepted, started, start, withObject, goodShape, fitsOpen, mayTake, newPage, allocate, lookUp, load, mayStore, stored, store}
 use Rattle.rules.specs.Collection.{plainly, collection}
 use Rattle.rules.specs.Collect.{CollectOutcome, refusalOfCollect, acceptedCollect, collect}
-use Rattle.rules.specs.Demands.{GoodRoots}
-use Rattle.laws.specs.Lists.{each-true}
 use Rattle.laws.specs.Valid.{valid-says, valid-layout}
 use Rattle.laws.specs.LookUp.{reference-says, found-object}
-use Rattle.laws.specs.Sound.{sound-says}
 use Rattle.laws.specs.Walk.{size}
 use Rattle.kept.specs.Refusals.{by-test, by-found, look-up-on}
-use Rattle.laws.specs.Collect.{collect-refusal, collect-accepts}
+use Rattle.laws.specs.Collect.{Ready, ready-says, collect-refusal, collect-accepts}
 
 -- no refusal but 0 is 0
 not-accepted : {A : Type 0} (e : ℕ) (m : Lent) → 1 ≤ e → refused e m .refusal ≡ 0 → A
@@ -167,24 +164,10 @@ store-says m a i v =
 -- ---- collect
 
 pub record CollectOk (m : Lent) (cells hints : List ℕ) (o : CollectOutcome) : Type 0 where
-  pub sound : Sound m
-  pub roots : GoodRoots m cells
+  pub ready : Ready m cells
   pub is : o ≡ acceptedCollect (collection plainly m cells hints)
 
 pub collect-says : (m : Lent) (roots hints : List ℕ) → collect m roots hints .refusal ≡ 0 → CollectOk m roots hints (collect m roots hints)
-unfolding refusalOfCollect
 collect-says m roots hints z =
-    by-test Ok (isValid m) _ _ (λ valid.
-    by-test Ok (isSound m) _ _ (λ sound.
-    by-test Ok (each (isReference m) roots) _ _ (λ good n. record {
-      sound = sound-says m sound;
-      roots = λ r k. reference-says m r (each-true (isReference m) roots good r k);
-      is = collect-accepts m roots hints none;
-    })
-    (λ e n. absurd (omega arith))) (λ e n. absurd (omega arith))) (λ e n. absurd (omega arith)) none
-  where
-    none : refusalOfCollect m roots ≡ 0
-    none = sym (collect-refusal m roots hints) ∙ z
-
-    Ok : ℕ → Type 0
-    Ok n = n ≡ 0 → CollectOk m roots hints (collect m roots hints)
+    let e : refusalOfCollect m roots ≡ 0 = sym (collect-refusal m roots hints) ∙ z in
+    record { ready = ready-says m roots e; is = collect-accepts m roots hints e }

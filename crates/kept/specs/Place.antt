@@ -60,8 +60,8 @@ module _ (m : Lent) (S : Sound m) (g f d p : ℕ) (labels met : List ℕ) (A : P
   many : length words ≡ d + 1
   many = simp length-replicate (omega arith)
 
-  small : d ≤ 1023
-  small = omega (arith, A .fits, y .page-high)
+  few : p ≤ 32767
+  few = omega (arith, A .refs, A .fits, y .page-high)
 
   inside : z + (d + 1) ≤ length (m .heap)
   inside = omega (arith, A .fits, page-within y g (A .high) .0)
@@ -92,7 +92,7 @@ module _ (m : Lent) (S : Sound m) (g f d p : ℕ) (labels met : List ℕ) (A : P
       go (no a) (yes b) = absurd (n (on-page pos w g (omega arith) (omega (arith, A .fits))))
 
   size-here : size (after .heap) z ≡ d + 1
-  size-here = ap sizeOf header ∙ size-made d p small (A .refs)
+  size-here = ap sizeOf header ∙ size-made d p few (A .refs)
 
   -- ---- walks
 
@@ -110,7 +110,7 @@ module _ (m : Lent) (S : Sound m) (g f d p : ℕ) (labels met : List ℕ) (A : P
       before b k = omega (arith, met-below (A .walked) b k, placed m b y (A .objects b k) .shape)
 
       is-header : isHeader (at (after .heap) z) (g * P + P - z) ≡ true
-      is-header = rw header (header-is _ _ (header-made d p small (A .refs) _ (omega (arith, A .fits))))
+      is-header = rw header (header-is _ _ (header-made d p few (A .refs) _ (omega (arith, A .fits))))
 
       stopped : Dec (z + (d + 1) < g * P + P) → isHeader (at (after .heap) (z + (d + 1))) (g * P + P - z - (d + 1)) ≡ false
       stopped (no q) = let e : g * P + P - z - (d + 1) ≡ 0 = omega arith in rw e (header-full _)
@@ -179,7 +179,7 @@ module _ (m : Lent) (S : Sound m) (g f d p : ℕ) (labels met : List ℕ) (A : P
   reference : (x j : ℕ) → IsObject m x ⊎ (x ≡ z) → j < refs after x → (payload after x j ≡ 0) ⊎ IsObject after (payload after x j)
   reference x j (inr e) h =
       let h′ : j < refs after z = rw e at h in
-      let q : refs after z ≡ p = ap refsOf header ∙ refs-made d p small (A .refs) in
+      let q : refs after z ≡ p = ap refsOf header ∙ refs-made d p few (A .refs) in
       inl (rw e (zeros j (omega (arith, A .refs))))
   reference x j (inl o) h =
       let shape = placed m x y o .shape in

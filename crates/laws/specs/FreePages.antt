@@ -85,6 +85,11 @@ first-from f e (suc n) lo h = go (f lo) refl (first-from f e n (suc lo)) h
     go true q ih p = (omega arith, omega arith, q)
     go false q ih p = let r = ih (omega arith) in (omega (arith, r .0), omega (arith, r .1), r .2)
 
+first-same : (f e : ℕ → Bool) → ((x : ℕ) → e x ≡ f x) → (xs : List ℕ) (d : ℕ) → first e xs d ≡ first f xs d
+unfolding first
+first-same f e h [] d = refl
+first-same f e h (x ∷ xs) d = rw (h x, first-same f e h xs d)
+
 first-none : (f : ℕ → Bool) (e n lo : ℕ) → count f (from lo n) ≡ 0 → first f (from lo n) e ≡ e
 unfolding from count first
 first-none f e zero lo h = refl
@@ -162,6 +167,19 @@ unfolding freePages isFree
 free-less labels lo hi g new a b inside e nz = count-less (λ j. eqb (at labels j) 0) (λ j. eqb (at (set labels g new) j) 0) g (eq-eqb _ _ e)
     (ne-eqb _ 0 (λ q. nz (sym (getD-set-same labels g new 0 inside) ∙ q)))
     (λ j ne. ap (λ (w : ℕ). eqb w 0) (getD-set-other labels g j new 0 ne)) lo hi a b
+
+-- a page in use gets another label: the same pages are free
+pub free-relabelled : (labels : List ℕ) (g new : ℕ) → at labels g ≢ 0 → new ≢ 0 → g < length labels → (x : ℕ) → isFree (set labels g new) x ≡ isFree labels x
+free-relabelled labels g new used nz inside x = go (ℕ-discrete x g)
+  where
+    go : Dec (x ≡ g) → isFree (set labels g new) x ≡ isFree labels x
+    go (yes e) = not-free _ x (λ q. nz (sym (getD-set-same labels g new 0 inside) ∙ ap (at (set labels g new)) (sym e) ∙ q)) ∙ sym (not-free labels x (λ q. used (ap (at labels) (sym e) ∙ q)))
+    go (no n) = unfold isFree in ap (λ (w : ℕ). eqb w 0) (getD-set-other labels g x new 0 n)
+
+-- and so is the lowest
+pub lowest-relabelled : (labels : List ℕ) (g new lo hi : ℕ) → at labels g ≢ 0 → new ≢ 0 → g < length labels → lowestFree (set labels g new) lo hi ≡ lowestFree labels lo hi
+unfolding lowestFree
+lowest-relabelled labels g new lo hi used nz inside = first-same (isFree labels) (isFree (set labels g new)) (free-relabelled labels g new used nz inside) (block lo hi) hi
 
 -- the same pages are free: as many
 pub free-same : (labels before : List ℕ) (lo hi : ℕ) → ((g : ℕ) → isFree labels g ≡ isFree before g) → freePages labels lo hi ≡ freePages before lo hi

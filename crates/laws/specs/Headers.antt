@@ -104,7 +104,7 @@ left-no-header w room r h = go (isHeader w r) refl
 
 -- ---- a header that was made
 
-module _ (d p : ℕ) (small : d ≤ 1023) (within : p ≤ d) where
+module _ (d p : ℕ) (few : p ≤ 32767) (within : p ≤ d) where
   pub size-made : sizeOf (headerOf d p) ≡ d + 1
   unfolding sizeOf headerOf
   size-made = omega arith

@@ -13,3 +13,4 @@ pub mod Room
 pub mod Sound
 pub mod Safe
 pub mod Collect
+pub mod Fills

@@ -15,11 +15,7 @@ use Rattle.rules.specs.Sound.{InUse, IsObject, Sound, isSound}
 use Rattle.rules.specs.Collection.{plainly, collection}
 use Rattle.rules.specs.Collect.{CollectOutcome, refusalOfCollect, collect}
 use Rattle.rules.specs.Demands.{Hinted, Reached, staying, byRoot, byReference, Becomes, Paired, OnHintedOrKept, HoldsCopy, Faithful, GoodRoots}
-use Rattle.laws.specs.Lists.{true-each}
-use Rattle.laws.specs.Valid.{valid-is}
-use Rattle.laws.specs.LookUp.{reference-is}
-use Rattle.laws.specs.Sound.{sound-is}
-use Rattle.laws.specs.Collect.{collect-refusal}
+use Rattle.laws.specs.Collect.{ready-is, collect-refusal}
 use Rattle.kept.specs.Accepted.{collect-says}
 use Rattle.theory.specs.Sums.{mem-at}
 use Rattle.theory.specs.SoundHeap.{object-nonzero}
@@ -42,17 +38,14 @@ paired-roots {roots = roots} {o = o} {Pairs = Pairs} F r k =
 module _ (m : Lent) (roots hints : List ℕ) where
   -- "every collection of a sound heap with good roots completes"
   pub completes : Sound m → GoodRoots m roots → collect m roots hints .refusal ≡ 0
-  unfolding refusalOfCollect
-  completes S good =
-      collect-refusal m roots hints
-      ∙ rw (valid-is m (S .valid), sound-is m S, true-each (isReference m) roots (λ r k. reference-is m r (good r k)))
+  completes S good = collect-refusal m roots hints ∙ ready-is m roots (record { sound = S; roots = good })
 
   -- and no other does
   pub completed-sound : collect m roots hints .refusal ≡ 0 → Sound m
-  completed-sound z = collect-says m roots hints z .sound
+  completed-sound z = collect-says m roots hints z .ready .sound
 
   pub completed-roots : collect m roots hints .refusal ≡ 0 → GoodRoots m roots
-  completed-roots z = collect-says m roots hints z .roots
+  completed-roots z = collect-says m roots hints z .ready .roots
 
   -- what it leaves has good roots too, so that a program may collect again
   pub completed-leaves : collect m roots hints .refusal ≡ 0 → GoodRoots (collect m roots hints .lent) (collect m roots hints .roots)

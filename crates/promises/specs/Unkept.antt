@@ -1,4 +1,4 @@
--- With no page kept for want of room, demand 3 of a collection is what it was before Q-6, both ways. Q-7 and Q-13 cite this.
+-- With no page kept for want of room, demand 3 of a collection is what it was before Q-6, both ways: for Q-7 and Q-13.
 use mathlib.Core.Path.{_≡_, sym, ap, _∙_}
 use mathlib.Core.Logic.{_⊎_, inl, inr}
 use mathlib.Core.List.{List, [], _∷_, List·Memᴰ, List·Memᴰ·not-nil}

@@ -28,7 +28,7 @@ wordsUnhinted m hints = sum (λ g. cond (isUnhinted m hints g) (wordsOn m g) 0) 
 abbrev pub neededFor : Lent → List ℕ → ℕ
 neededFor m hints = pagesNeeded (m .rec .page) (wordsUnhinted m hints)
 
--- the refusal's number, 0 if accepted: "Checks go by number, except that collect tests 1, 7, 6", and by Q-6 no longer 8
+-- the refusal's number, 0 if accepted: "Checks go by number, except that collect tests 1, 7, 6, 8", and by Q-6 the last is gone
 unfoldable pub refusalOfCollect : Lent → List ℕ → ℕ
 refusalOfCollect m roots = cond (isValid m) (cond (isSound m) (cond (each (isReference m) roots) 0 6) 7) 1
 

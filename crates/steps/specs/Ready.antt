@@ -17,6 +17,7 @@ use Rattle.rules.specs.Calls.{Outcome, start, allocate, lookUp, load, store}
 use Rattle.rules.specs.Collect.{collect}
 use Rattle.rules.specs.Demands.{toCollect, after, GoodRoots}
 use Rattle.laws.specs.Lists.{each-true, mem-set}
+use Rattle.laws.specs.Collect.{Ready}
 use Rattle.kept.specs.Refusals.{by-test}
 use Rattle.kept.specs.Start.{start-sound}
 use Rattle.kept.specs.Allocate.{allocate-sound, allocate-keeps, allocate-new}
@@ -53,11 +54,6 @@ unfolding each
 good-cells m r k = inl (eqb-true r 0 (each-true (λ r. eqb r 0) cells refl r k))
 
 -- ---- what every record keeps
-
--- all that a collection asks for
-pub record Ready (m : Lent) (cells : List ℕ) : Type 0 where
-  pub sound : Sound m
-  pub roots : GoodRoots m cells
 
 -- once a start was accepted
 abbrev pub IsReady : Session → Type 0

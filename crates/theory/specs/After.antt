@@ -26,14 +26,14 @@ use Rattle.theory.specs.Fillers.{FilledPage, filled-agree, kept-clear, f
 use Rattle.theory.specs.FillPages.{FilledAll}
 use Rattle.theory.specs.Freed.{freed-labels, freed-labels-length, freed-heap, freed-heap-length}
 use Rattle.theory.specs.Covers.{Covers, covers}
-use Rattle.theory.specs.Accept.{Accepted}
+use Rattle.laws.specs.Collect.{Ready}
 use Rattle.theory.specs.SoundHeap.{layout, other-label, other≢0, other≢label}
 use Rattle.laws.specs.Objects.{page-pos}
 use Rattle.laws.specs.Valid.{label-pos}
 use Rattle.theory.specs.FirstState.{world, labels-length, used-kind, free-stays}
 use Rattle.theory.specs.Run.{W as worldOf, t as sweptOf, all-done, filled}
 
-module _ (m : Lent) (roots hints : List ℕ) (A : Accepted m roots) where
+module _ (m : Lent) (roots hints : List ℕ) (A : Ready m roots) where
   -- the labels, the heap and all that is lent after
   abbrev l′ : List ℕ
   l′ = freedLabels (m .rec .label) (sweptOf m roots hints A .pages .labels)

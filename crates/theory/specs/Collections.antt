@@ -1,5 +1,5 @@
--- What is proved of one collection, over the definitions of `rules`, for every memory, root cells and hints: a sound heap with good
--- roots passes the tests of collect; where they pass, its run is safe, what it leaves is sound, it finds its pages, and it is faithful.
+-- What is proved of one collection, over the definitions of `rules`, for every memory, root cells and hints: where the tests of
+-- collect pass, its run is safe, what it leaves is sound, it finds its pages, and it is faithful.
 use mathlib.Core.Path.{_≡_, sym, ap, _∙_, subst}
 use mathlib.Core.List.{List, []}
 use Prim.Native.Nat.{ℕ, _≤_}
@@ -11,8 +11,7 @@ use Rattle.rules.specs.Collect.{CollectOutcome, neededFor, refusalOfCollect, ac
 use Rattle.rules.specs.Demands.{Faithful, FindsPages}
 use Rattle.laws.specs.FreePages.{freePages}
 use Rattle.laws.specs.Safe.{SafeRun}
-use Rattle.theory.specs.Accept.{Accepted, accepted}
-use Rattle.laws.specs.Collect.{collect-accepts, collect-refuses}
+use Rattle.laws.specs.Collect.{Ready, ready-says, collect-accepts, collect-refuses}
 use Rattle.theory.specs.Plainly.{collection-plainly, run-plainly}
 use Rattle.theory.specs.Run.{run-safe}
 use Rattle.theory.specs.After.{after-sound}
@@ -20,8 +19,8 @@ use Rattle.theory.specs.Pairing.{outcome, Pairs, faithful}
 use Rattle.theory.specs.Taken.{finds, none-kept}
 
 module _ (m : Lent) (roots hints : List ℕ) (e : refusalOfCollect m roots ≡ 0) where
-  A : Accepted m roots
-  A = accepted m roots e
+  A : Ready m roots
+  A = ready-says m roots e
 
   -- every access of its run is inside, and counts fit
   pub collect-safe : SafeRun (planOf m plainly) m roots hints

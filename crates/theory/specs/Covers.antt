@@ -45,7 +45,7 @@ module _ (W : World) (t : State) (I : Inv W t) (T : Tiled W t) (h : List ℕ) (g
           (ap sizeOf hd, rw hd (record { odd = W .odd x ob; shape = W .shape x ob; fits = fits }))
       go (left m mem ex ey) =
           let hd : at h a ≡ headerOf (sizeAt W x - 1) 0 = rw (ey, ex) (F .head m mem (ap (pageOf W) (sym (ey ∙ ex)) ∙ pg)) in
-          (ap sizeOf hd ∙ filler-size (sizeAt W x) (some-words W x ob), rw hd (filler-header (sizeAt W x) room (some-words W x ob) fits))
+          (ap sizeOf hd ∙ filler-size (sizeAt W x) (some-words W x ob), rw hd (filler-header (sizeAt W x) (some-words W x ob) room fits))
 
   covers-stop : (a room : ℕ) → isHeader (at h a) room ≡ false → a + room ≡ g * W .plan .page + W .plan .page → Cursor W t g a room → Covers W t h g a [] a
   covers-stop a room f e (at-place x K pg) = absurd (true≢false (sym (header-is (at h a) room (place-header a room x e K pg .1)) ∙ f))

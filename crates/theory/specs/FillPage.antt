@@ -2,7 +2,7 @@
 -- other word changes.
 use mathlib.Core.Path.{_≡_, refl, sym, ap, _∙_, subst}
 use mathlib.Core.Logic.{_≢_, _⊎_, inl, inr}
-use mathlib.Core.Bool.{Bool, true, false, cond, true≢false}
+use mathlib.Core.Bool.{true, false, true≢false}
 use mathlib.Core.List.{List, [], _∷_, _++_, append-nil, append-assoc, List·Memᴰ, List·Memᴰ·head, List·Memᴰ·tail, List·Memᴰ·cases-cons, List·Memᴰ·not-nil}
 use Prim.Native.Nat.{ℕ, zero, suc, _+_, _*_, _-_, _/_, _≤_, _<_}
 use native.Mathlib.Nat.{add-zero, le-refl}
@@ -25,19 +25,6 @@ use Rattle.theory.specs.Cursor.{Cursor, at-place, at-stop, behind-place}
 use Rattle.theory.specs.Fillers.{filler-length, filler-head, filler-zeros, Clear, from-place, from-some}
 
 -- ---- filling a page that is kept
-
-cond-heap : (b : Bool) (s t s′ t′ : Filled) → s .heap ≡ s′ .heap → t .heap ≡ t′ .heap → cond b s t .heap ≡ cond b s′ t′ .heap
-cond-heap true s t s′ t′ p q = p
-cond-heap false s t s′ t′ p q = q
-
--- the heap does not depend on the places
-pub fill-heap : (f a room : ℕ) (h l k : List ℕ) → fillPage f a room (record { heap = h; places = l }) .heap ≡ fillPage f a room (record { heap = h; places = k }) .heap
-unfolding fillPage fillPlace
-fill-heap zero a room h l k = refl
-fill-heap (suc f) a room h l k =
-    cond-heap (isHeader (at h a) room) _ _ _ _ (fill-heap f (a + sizeOf (at h a)) (room - sizeOf (at h a)) h l k)
-    (cond-heap (isLeft (at h a) room) _ _ _ _
-    (fill-heap f (a + sizeAtCopy h (at h a)) (room - sizeAtCopy h (at h a)) (sets h a (filler (sizeAtCopy h (at h a)))) (l ++ (a ∷ [])) (k ++ (a ∷ []))) refl)
 
 -- what is still to fill, On, and the pages that copies went to are as the sweep left them
 pub record Unfilled (W : World) (t : State) (On : ℕ → Type 0) (h : List ℕ) : Type 0 where

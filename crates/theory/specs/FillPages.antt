@@ -9,6 +9,7 @@ use Rattle.rules.specs.Ranges.{at}
 use Rattle.rules.specs.Collection.{Move, State, Filled, fillPage, fillPages, keptPages, filled}
 use Rattle.rules.specs.Demands.{Once}
 use Rattle.laws.specs.Pages.{page-on}
+use Rattle.laws.specs.Fills.{page-heap}
 use Rattle.laws.specs.Safe.{SafeFills}
 use Rattle.theory.specs.Sums.{Distinct, distinct-append, places-distinct, distinct-places}
 use Rattle.theory.specs.Queue.{Queued}
@@ -17,7 +18,7 @@ use Rattle.theory.specs.World.{pageOf, World, KeptPage, Inv}
 use Rattle.theory.specs.Places.{left, old-new-kept}
 use Rattle.theory.specs.Tile.{Tiled}
 use Rattle.theory.specs.Fillers.{FilledPage, filled-agree}
-use Rattle.theory.specs.FillPage.{fill-heap, Unfilled, FilledWhole, fill-whole, page-inside}
+use Rattle.theory.specs.FillPage.{Unfilled, FilledWhole, fill-whole, page-inside}
 
 -- ---- filling pages one after another
 
@@ -67,7 +68,7 @@ module _ (W : World) (t : State) (I : Inv W t) (T : Tiled W t) (g : ℕ) (gs : L
 
   safe-rest : SafeFills (W .plan .page) gs (s1 .heap)
       → SafeFills (W .plan .page) gs (fillPage (W .plan .page) (g * W .plan .page) (W .plan .page) (record { heap = s .heap; places = [] }) .heap)
-  safe-rest = subst (SafeFills (W .plan .page) gs) (fill-heap (W .plan .page) (g * W .plan .page) (W .plan .page) (s .heap) (s .places) [])
+  safe-rest = subst (SafeFills (W .plan .page) gs) (page-heap (W .plan .page) (g * W .plan .page) (W .plan .page) (s .heap) (s .places))
 
   fill-cons : FilledList W t gs s1 s2 → FilledList W t (g ∷ gs) s (fillPages (W .plan .page) (g ∷ gs) s)
   unfolding fillPages SafeFills

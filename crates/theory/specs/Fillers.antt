@@ -3,7 +3,7 @@
 use mathlib.Core.Path.{_≡_, refl, sym, _∙_}
 use mathlib.Core.Logic.{_⊎_, inl, inr}
 use mathlib.Core.List.{List, List·Memᴰ}
-use Prim.Native.Nat.{ℕ, zero, suc, _+_, _*_, _-_, _%_, _≤_, _<_}
+use Prim.Native.Nat.{ℕ, zero, suc, _+_, _-_, _≤_, _<_}
 use native.Mathlib.Nat.{mod-lt}
 use native.Mathlib.Decide.{ℕ-discrete}
 use native.Mathlib.Omega.{arith}
@@ -11,13 +11,13 @@ use lib.ListN.{length, length-replicate}
 use Rattle.rules.specs.Ranges.{at}
 use Rattle.rules.specs.Header.{headerOf, sizeOf, refsOf}
 use Rattle.rules.specs.Collection.{Move, State, filler}
-use Rattle.laws.specs.Headers.{Header}
+use Rattle.laws.specs.Headers.{Header, size-made, refs-made, header-made}
 use Rattle.laws.specs.Pages.{same-page, pages-apart}
 use Rattle.laws.specs.Words.{zeros-at}
 use Rattle.theory.specs.World.{pageOf, sizeAt, World, Kept, Place, home, Inv}
 use Rattle.theory.specs.Places.{some-words, kept-from}
 
--- ---- a filler. With no references its header is one at any length
+-- ---- a filler
 
 pub filler-length : (n : ℕ) → 0 < n → length (filler n) ≡ n
 unfolding filler
@@ -32,20 +32,18 @@ unfolding filler
 filler-zeros n zero h = absurd (omega arith)
 filler-zeros n (suc i) h = zeros-at (n - 1) i
 
-pub filler-size : (n : ℕ) → 0 < n → sizeOf (headerOf (n - 1) 0) ≡ n
-unfolding sizeOf headerOf
-filler-size n h = omega arith
-
 pub filler-refs : (n : ℕ) → refsOf (headerOf (n - 1) 0) ≡ 0
-unfolding refsOf headerOf
-filler-refs n = let m : ((n - 1 + 1) * 65536 + 2 * 0 + 1) % 65536 ≡ 1 = omega arith in rw m (omega arith)
+filler-refs n = refs-made (n - 1) 0 (omega arith) (omega arith)
 
-pub filler-header : (n room : ℕ) → 0 < n → n ≤ room → Header (headerOf (n - 1) 0) room
-filler-header n room h f = record {
-  odd = unfold headerOf in omega arith;
-  shape = omega (arith, filler-size n h, filler-refs n);
-  fits = omega (arith, filler-size n h);
-}
+module _ (n : ℕ) (some : 0 < n) where
+  whole : n - 1 + 1 ≡ n
+  whole = omega arith
+
+  pub filler-size : sizeOf (headerOf (n - 1) 0) ≡ n
+  filler-size = size-made (n - 1) 0 (omega arith) (omega arith) ∙ whole
+
+  pub filler-header : (room : ℕ) → n ≤ room → Header (headerOf (n - 1) 0) room
+  filler-header room f = header-made (n - 1) 0 (omega arith) (omega arith) room (omega (arith, whole))
 
 -- ---- a page filled
 

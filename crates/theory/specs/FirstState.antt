@@ -31,12 +31,12 @@ use Rattle.theory.specs.Causes.{causes-none}
 use Rattle.theory.specs.Tile.{Next, another, blank, Tiled}
 use Rattle.theory.specs.Good.{Good}
 use Rattle.theory.specs.Hints.{Unhinted, Hinting, begun-hinting, hint-pages, pages-get, free-as-before, hints-safe}
-use Rattle.theory.specs.Accept.{Accepted}
+use Rattle.laws.specs.Collect.{Ready}
 use Rattle.theory.specs.SoundHeap.{layout, other≢0, other≢label, in-use, met-of, object-fits, object-nonzero, first-object, objectsUnhinted, words-are, unhinted-is}
 use Rattle.laws.specs.Objects.{met-object, met-page, objects-apart, page-pos}
 use Rattle.laws.specs.Valid.{label-pos}
 
-module _ (m : Lent) (roots hints : List ℕ) (A : Accepted m roots) where
+module _ (m : Lent) (roots hints : List ℕ) (A : Ready m roots) where
   abbrev S : Sound m
   S = A .sound
 

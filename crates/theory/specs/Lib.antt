@@ -26,7 +26,6 @@ pub mod FillPage
 pub mod FillPages
 -- from the tests of collect to the first state, and from the last one to what is lent after
 pub mod Hints
-pub mod Accept
 pub mod SoundHeap
 pub mod FirstState
 pub mod Run

@@ -6,7 +6,6 @@ use mathlib.Core.Bool.{Bool, true, false, cond}
 use mathlib.Core.List.{List, [], _∷_, _++_, List·Memᴰ, List·Memᴰ·head, List·Memᴰ·tail, List·Memᴰ·cases-cons, List·Memᴰ·append-cases, List·Memᴰ·eq-of-singleton, List·Memᴰ·not-nil, Memᴰ·cast}
 use Prim.Native.Nat.{ℕ, _+_, _*_, _≤_, _<_}
 use native.Mathlib.Nat.{add-zero, zero-add}
-use native.Mathlib.Decide.{ℕ-discrete}
 use native.Mathlib.Omega.{arith}
 use lib.Dec.{leb}
 use lib.ListN.{length, set, length-append}
@@ -15,14 +14,14 @@ use Rattle.rules.specs.Ranges.{at, sum}
 use Rattle.rules.specs.Pages.{isFree, pagesNeeded}
 use Rattle.rules.specs.Collection.{Move, State, onPages, put, takePage, withRoom, canCopy, keepPage}
 use Rattle.laws.specs.Walk.{size}
-use Rattle.laws.specs.FreePages.{Lowest, freePages, lowest, free-is, not-free, free-less, free-same}
+use Rattle.laws.specs.FreePages.{Lowest, freePages, lowest, free-less, free-same, free-relabelled}
 use Rattle.theory.specs.Sums.{sum-snoc, Distinct, distinct-snoc, sub-sum}
 use Rattle.theory.specs.Packing.{Packed, packed-same, packed-new, packed-enough}
 use Rattle.theory.specs.World.{pageOf, sizeAt, World, NotGone, Inv}
 use Rattle.theory.specs.Places.{some-words, old-before}
 use Rattle.theory.specs.Put.{put-moves}
 use Rattle.theory.specs.Take.{page-inside}
-use Rattle.theory.specs.Keep.{free-up, free-else}
+use Rattle.theory.specs.Keep.{page-inside as kept-inside}
 use Rattle.theory.specs.Forward.{Due, Avail, cannot-says, Within, How, idle, copies, keeps, copied, keeping}
 
 -- ---- the objects that were copied
@@ -194,14 +193,7 @@ keep-packs W s I K x D cant = record {
 }
   where
     same : (g : ℕ) → isFree (set (s .pages .labels) (pageOf W x) (W .plan .new)) g ≡ isFree (s .pages .labels) g
-    same g = go (ℕ-discrete (at (s .pages .labels) g) 0)
-      where
-        within : s .pages .kept ≤ length (s .pages .queue)
-        within = packs-within W s K
-
-        go : Dec (at (s .pages .labels) g ≡ 0) → isFree (set (s .pages .labels) (pageOf W x) (W .plan .new)) g ≡ isFree (s .pages .labels) g
-        go (yes e) = free-is _ g (free-up W s I x (D .object) (D .old) within g e) ∙ sym (free-is _ g e)
-        go (no n) = not-free _ g (λ e. n (free-else W s I x (D .object) (D .old) within g e)) ∙ sym (not-free _ g n)
+    same = free-relabelled (s .pages .labels) (pageOf W x) (W .plan .new) (λ q. W .old≢0 (sym (D .old) ∙ q)) (W .new≢0) (kept-inside W s I x (D .object) (D .old) (packs-within W s K))
 
 pub packs-how : (W : World) (s t : State) → Inv W s → Packs W s → How W s t → Packs W t
 packs-how W s t I K (idle e) = subst (Packs W) (sym e) K

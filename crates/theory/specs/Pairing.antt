@@ -24,7 +24,7 @@ use Rattle.theory.specs.Packs.{packs-within}
 use Rattle.theory.specs.Causes.{StaysBy}
 use Rattle.theory.specs.Good.{kept-reach}
 use Rattle.theory.specs.Fillers.{filler-size, filler-refs}
-use Rattle.theory.specs.Accept.{Accepted}
+use Rattle.laws.specs.Collect.{Ready}
 use Rattle.theory.specs.SoundHeap.{other≢label, in-use, object-nonzero}
 use Rattle.laws.specs.Objects.{page-pos}
 use Rattle.laws.specs.Valid.{label-pos}
@@ -34,7 +34,7 @@ use Rattle.theory.specs.After.{m′ as lentOf, inv, F as filledOf, first
 use Rattle.theory.specs.Plainly.{unlogged}
 use Rattle.theory.specs.Taken.{free-taken}
 
-module _ (m : Lent) (roots hints : List ℕ) (A : Accepted m roots) where
+module _ (m : Lent) (roots hints : List ℕ) (A : Ready m roots) where
   abbrev S : Sound m
   S = A .sound
 

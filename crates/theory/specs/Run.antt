@@ -15,10 +15,10 @@ use Rattle.theory.specs.World.{World}
 use Rattle.theory.specs.Packs.{packs-within, words-old}
 use Rattle.theory.specs.FillPages.{FilledAll, filled-all}
 use Rattle.theory.specs.SweepQueue.{RootsDone, AllDone, forward-roots, sweep-queue, queue-length}
-use Rattle.theory.specs.Accept.{Accepted}
+use Rattle.laws.specs.Collect.{Ready}
 use Rattle.theory.specs.FirstState.{s, world, first-good, hints-run-safe, labels-length}
 
-module _ (m : Lent) (roots hints : List ℕ) (A : Accepted m roots) where
+module _ (m : Lent) (roots hints : List ℕ) (A : Ready m roots) where
   abbrev pub W : World
   W = world m roots hints A
 
@@ -31,7 +31,7 @@ module _ (m : Lent) (roots hints : List ℕ) (A : Accepted m roots) where
 
   pub roots-done : RootsDone W (s m roots hints A) roots r (SafeRoots (planOf m logged) roots (s m roots hints A))
   unfolding world afterRoots
-  roots-done = forward-roots W roots (s m roots hints A) (first-good m roots hints A) (λ j h. go j h (A .rootCells j h))
+  roots-done = forward-roots W roots (s m roots hints A) (first-good m roots hints A) (λ j h. go j h (A .roots (at roots j) (at-mem roots j h)))
     where
       go : (j : ℕ) → j < length roots → (at roots j ≡ 0) ⊎ IsObject m (at roots j) → (at roots j ≡ 0) ⊎ (IsObject m (at roots j) × (IsObject m (at roots j) × List·Memᴰ (at roots j) roots))
       go j h (inl e) = inl e

@@ -22,14 +22,14 @@ use Rattle.theory.specs.KeptPages.{kept-none, kept-length, kept-at}
 use Rattle.theory.specs.World.{World, LabelledOrKept}
 use Rattle.theory.specs.Packs.{packs-within, packs-few}
 use Rattle.theory.specs.Good.{Grow, grow-trans}
-use Rattle.theory.specs.Accept.{Accepted}
+use Rattle.laws.specs.Collect.{Ready}
 use Rattle.theory.specs.SoundHeap.{other≢0, other≢label, words-are}
 use Rattle.laws.specs.Valid.{label-pos}
 use Rattle.theory.specs.FirstState.{p as pagesOf, s as firstOf, H, world, labels-length, used-kind, free-stays, free-same-pages}
 use Rattle.theory.specs.Run.{W as worldOf, r as rootedOf, t as sweptOf, roots-done, all-done}
 use Rattle.theory.specs.After.{inv, new-in-use}
 
-module _ (m : Lent) (roots hints : List ℕ) (A : Accepted m roots) where
+module _ (m : Lent) (roots hints : List ℕ) (A : Ready m roots) where
   abbrev S : Sound m
   S = A .sound
 

@@ -3,8 +3,7 @@ use mathlib.Core.Path.{_≡_, sym, _∙_}
 use Rattle.rules.specs.Lent.{Lent, lent}
 use Rattle.rules.specs.Collect.{refusalOfCollect}
 use Rattle.laws.specs.Valid.{valid-layout}
-use Rattle.laws.specs.Collect.{collect-accepts, collect-refuses}
-use Rattle.theory.specs.Accept.{accepted}
+use Rattle.laws.specs.Collect.{ready-says, collect-accepts, collect-refuses}
 use Rattle.theory.specs.Collections.{collect-safe}
 use borrow.Author.Needs.{needs}
 use Rattle.collector.proofs.collect.Statement.{statement}
@@ -40,7 +39,7 @@ returns : tie.Need-returns
 returns c = c .refused .ensures _ _ _ _ ∙ rw (c .before .before .refusal .ensures) (sym (collect-refuses (memory (c .before .before .before .before .before .before .before .before .before .before .before .before)) (c .before .before .before .before .before .before .before .before .before .before .before .before .args .roots .now) (c .before .before .before .before .before .before .before .before .before .before .before .before .args .hints .now) (λ z. c .before .if1 .taken (c .before .before .refusal .ensures ∙ z))))
 
 run-requires : tie.Need-run-requires
-run-requires c κs = (valid-layout (memory (c .before .before .before .before .before .before .before .before .before .before .before .before .before .before .before)) (accepted (memory (c .before .before .before .before .before .before .before .before .before .before .before .before .before .before .before)) _ (passed (c .before .before .before .before)) .sound .valid), collect-safe (memory (c .before .before .before .before .before .before .before .before .before .before .before .before .before .before .before)) _ _ (passed (c .before .before .before .before)))
+run-requires c κs = (valid-layout (memory (c .before .before .before .before .before .before .before .before .before .before .before .before .before .before .before)) (ready-says (memory (c .before .before .before .before .before .before .before .before .before .before .before .before .before .before .before)) _ (passed (c .before .before .before .before)) .sound .valid), collect-safe (memory (c .before .before .before .before .before .before .before .before .before .before .before .before .before .before .before)) _ _ (passed (c .before .before .before .before)))
 
 same-length-5 : tie.Need-same-length-5
 same-length-5 c = search needs

@@ -10,7 +10,8 @@ use Rattle.rules.specs.Header.{isHeader}
 use Rattle.rules.specs.Collection.{filler, fillPage}
 use Rattle.laws.specs.Headers.{Header, header-says}
 use Rattle.fillers.specs.Places.{LeftBy, left-none, left-on, turns-first}
-use Rattle.fillers.proofs.Filling.{filledOf, Filling, filling-stop, filling-past, filling-safe, filling-object, filling-place}
+use Rattle.laws.specs.Fills.{filledOf}
+use Rattle.fillers.proofs.Filling.{Filling, filling-stop, filling-past, filling-safe, filling-object, filling-place}
 use borrow.Author.Needs.{needs}
 use Rattle.fillers.proofs.fill_page.Statement.{statement}
 use Rattle.fillers.proofs.fill_page.Tie as tie

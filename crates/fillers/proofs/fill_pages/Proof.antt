@@ -6,7 +6,8 @@ use native.Mathlib.Omega.{arith}
 use lib.ListN.{length, take, drop}
 use Rattle.rules.specs.Collection.{fillPages}
 use Rattle.laws.specs.Safe.{SafeFill}
-use Rattle.fillers.proofs.Filling.{filledOf, Fillings, fillings-end, fillings-safe, fillings-turn}
+use Rattle.laws.specs.Fills.{filledOf}
+use Rattle.fillers.proofs.Filling.{Fillings, fillings-end, fillings-safe, fillings-turn}
 use borrow.Author.Needs.{needs}
 use Rattle.fillers.proofs.fill_pages.Statement.{statement}
 use Rattle.fillers.proofs.fill_pages.Tie as tie
