@@ -1,6 +1,6 @@
 -- What Q-6 asks, in a user's words: every collection of a sound heap with good roots completes, and refusal 8 never occurs. So a heap is
 -- never stuck: whatever it holds, a collection with nothing in the root cells and no hints leaves every page free.
-use mathlib.Core.Path.{_≡_, sym, _∙_, subst}
+use mathlib.Core.Path.{_≡_, sym, _∙_}
 use mathlib.Core.Logic.{_≢_, _⊎_, inl, inr}
 use mathlib.Core.Bool.{Bool, true, false, cond}
 use mathlib.Core.List.{List, [], _∷_, List·Memᴰ, List·Memᴰ·not-nil}
@@ -11,29 +11,18 @@ use Rattle.rules.specs.Ranges.{each}
 use Rattle.rules.specs.Pages.{pagesNamed}
 use Rattle.rules.specs.Lent.{Lent, isValid}
 use Rattle.rules.specs.Walk.{isReference}
-use Rattle.rules.specs.Sound.{InUse, IsObject, Sound, isSound}
+use Rattle.rules.specs.Sound.{InUse, Sound, isSound}
 use Rattle.rules.specs.Collection.{plainly, collection}
 use Rattle.rules.specs.Collect.{CollectOutcome, refusalOfCollect, collect}
-use Rattle.rules.specs.Demands.{Hinted, Reached, staying, byRoot, byReference, Becomes, Paired, OnHintedOrKept, HoldsCopy, Faithful, GoodRoots}
+use Rattle.rules.specs.Demands.{Hinted, Reached, staying, byRoot, byReference, OnHintedOrKept, HoldsCopy, Faithful, GoodRoots}
 use Rattle.laws.specs.Collect.{ready-is, collect-refusal}
 use Rattle.kept.specs.Accepted.{collect-says}
-use Rattle.theory.specs.Sums.{mem-at}
 use Rattle.theory.specs.SoundHeap.{object-nonzero}
-use Rattle.theory.specs.Collections.{collect-faithful}
+use Rattle.theory.specs.Collections.{collect-faithful, collect-ready}
 
 member-length : (l : List ℕ) (x : ℕ) → List·Memᴰ x l → 0 < length l
 member-length [] x k = absurd (List·Memᴰ·not-nil k)
 member-length (y ∷ l) x k = omega arith
-
--- where roots agree under the pairing, they are good afterwards
-paired-roots : {m : Lent} {roots : List ℕ} {Stay : ℕ → Type 0} {o : CollectOutcome} {Pairs : ℕ → ℕ → Type 0} → Paired m roots Stay o Pairs → GoodRoots (o .lent) (o .roots)
-paired-roots {roots = roots} {o = o} {Pairs = Pairs} F r k =
-    let (j, l, e) = mem-at (o .roots) r k in
-    subst (λ (u : ℕ). (u ≡ 0) ⊎ IsObject (o .lent) u) e (good _ _ (F .rootsAgree j (omega (arith, F .rootCells))))
-  where
-    good : (v u : ℕ) → Becomes Pairs v u → (u ≡ 0) ⊎ IsObject (o .lent) u
-    good v u (inl z) = inl (z .1)
-    good v u (inr p) = inr (F .object v u p)
 
 module _ (m : Lent) (roots hints : List ℕ) where
   -- "every collection of a sound heap with good roots completes"
@@ -49,7 +38,7 @@ module _ (m : Lent) (roots hints : List ℕ) where
 
   -- what it leaves has good roots too, so that a program may collect again
   pub completed-leaves : collect m roots hints .refusal ≡ 0 → GoodRoots (collect m roots hints .lent) (collect m roots hints .roots)
-  completed-leaves z = let (Pairs, F) = collect-faithful m roots hints (sym (collect-refusal m roots hints) ∙ z) in paired-roots (F .paired)
+  completed-leaves z = collect-ready m roots hints (sym (collect-refusal m roots hints) ∙ z) .roots
 
   -- "8 is shown never to occur": of any memory, roots and hints
   pub never-eight : collect m roots hints .refusal ≢ 8

@@ -47,8 +47,11 @@ pub record LeftCollected : Type 0 where
 abbrev pub heldCollected : LeftCollected → Lent
 heldCollected x = lent (x .heap) (x .labels) (x .links) (x .answer .rec)
 
+abbrev pub outcomeLeft : LeftCollected → CollectOutcome
+outcomeLeft x = collectOutcome (x .answer) (x .heap) (x .labels) (x .links) (x .roots)
+
 abbrev pub Collects : Lent → List ℕ → List ℕ → LeftCollected → Type 0
-Collects m roots hints x = collectOutcome (x .answer) (x .heap) (x .labels) (x .links) (x .roots) ≡ collect m roots hints
+Collects m roots hints x = outcomeLeft x ≡ collect m roots hints
 
 -- ---- they determine: answer and memory are read back from the outcome
 

@@ -3,6 +3,7 @@ pub mod Completes
 pub mod Demand3
 pub mod Unkept
 pub mod Rejects
+pub mod InARow
 pub mod Hinted
 pub mod Landed
 pub mod Room

@@ -8,13 +8,15 @@ use Rattle.rules.specs.Lent.{Lent}
 use Rattle.rules.specs.Sound.{Sound}
 use Rattle.rules.specs.Calls.{Outcome, start}
 use Rattle.rules.specs.Collection.{plainly, collection}
-use Rattle.rules.specs.Collect.{CollectOutcome, collectOutcome, acceptedCollect}
+use Rattle.rules.specs.Collect.{CollectOutcome, acceptedCollect}
 use Rattle.rules.specs.Demands.{toStart, toAllocate, toLookUp, toLoad, toStore, toCollect, after, Faithful, FindsPages}
+use Rattle.rules.specs.InARow.{NamesNoneTaken, Repeats}
 use Rattle.kept.specs.Start.{start-sound}
 use Rattle.laws.specs.Collect.{collect-refusal, collect-accepts}
 use Rattle.theory.specs.Collections.{collect-finds, collect-faithful}
-use Rattle.promises.specs.Contracts.{Left, held, Starts, Allocates, LooksUp, Loads, Stores, LeftCollected, heldCollected, Collects}
+use Rattle.promises.specs.Contracts.{Left, held, Starts, Allocates, LooksUp, Loads, Stores, LeftCollected, heldCollected, outcomeLeft, Collects}
 use Rattle.promises.specs.Demand3.{call-sound}
+use Rattle.promises.specs.InARow.{two-in-a-row}
 
 -- m is what a program holds after an accepted start and any calls since, accepted or refused
 pub data Held : Lent → Type 0 where
@@ -43,11 +45,17 @@ held-sound (stored m a i v x h c) = subst Sound (lent-of _ _ c) (call-sound m (h
 held-sound (collected m roots hints x h c) =
     subst Sound (sym (ap (λ (o : CollectOutcome). o .lent) c)) (call-sound m (held-sound h) (toCollect roots hints))
 
+-- Q-7 of two calls in a row, the second with what the first left
+pub collected-twice : (m : Lent) (roots hints : List ℕ) (x y : LeftCollected) → Collects m roots hints x → Collects (heldCollected x) (x .roots) hints y
+    → x .answer .refusal ≡ 0 → x .answer .kept ≡ 0 → NamesNoneTaken m hints (outcomeLeft x) → y .answer .kept ≡ 0 → Repeats (outcomeLeft x) hints (outcomeLeft y)
+collected-twice m roots hints x y c d e none names none′ =
+    two-in-a-row m roots hints (outcomeLeft x) (outcomeLeft y) (record { first = c; accepted = e; kept = none; second = d; names = names; keptAgain = none′ })
+
 -- a collection that answered refusal 0: it found its pages, and what it left is faithful to what was there
 pub record Kept (m : Lent) (roots hints : List ℕ) (x : LeftCollected) : Type 1 where
   pub finds : FindsPages m roots hints (collection plainly m roots hints .taken)
   pub counted : x .answer .taken ≡ length (collection plainly m roots hints .taken)
-  pub pairs : (Pairs : ℕ → ℕ → Type 0) × Faithful m roots hints (collectOutcome (x .answer) (x .heap) (x .labels) (x .links) (x .roots)) (collection plainly m roots hints) Pairs
+  pub pairs : (Pairs : ℕ → ℕ → Type 0) × Faithful m roots hints (outcomeLeft x) (collection plainly m roots hints) Pairs
 
 pub collected-kept : (m : Lent) (roots hints : List ℕ) (x : LeftCollected) → Collects m roots hints x → x .answer .refusal ≡ 0 → Kept m roots hints x
 unfolding acceptedCollect

@@ -1,7 +1,7 @@
 -- With no page kept for want of room, demand 3 of a collection is what it was before Q-6, both ways: for Q-7 and Q-13.
-use mathlib.Core.Path.{_≡_, sym, ap, _∙_}
+use mathlib.Core.Path.{_≡_, refl, sym, ap, _∙_}
 use mathlib.Core.Logic.{_⊎_, inl, inr}
-use mathlib.Core.List.{List, [], _∷_, List·Memᴰ, List·Memᴰ·not-nil}
+use mathlib.Core.List.{List, [], _∷_, List·Memᴰ, List·Memᴰ·head, List·Memᴰ·not-nil}
 use Prim.Native.Nat.{ℕ}
 use native.Mathlib.Omega.{arith}
 use lib.ListN.{length}
@@ -65,6 +65,14 @@ module _ (m : Lent) (roots hints : List ℕ) (o : CollectOutcome) (c : Collectio
       pages g (inr (inl k)) = inr k
       pages g (inr (inr k)) = absurd (empty g k)
 
+  -- and there are no fillers
+  pub unfilled : o .kept ≡ 0 → Faithful m roots hints o c Pairs → o .fillers ≡ 0
+  unfilled e F = F .fills .count ∙ empty (c .fillers) (λ y k. none (c .kept) (sym (F .keeps .count) ∙ e) _ (F .fills .left y k .1))
+    where
+      empty : (l : List ℕ) → ((y : ℕ) → List·Memᴰ y l → ⊥) → length l ≡ 0
+      empty [] f = refl
+      empty (y ∷ l) f = absurd (f y (List·Memᴰ·head refl))
+
   pub and-back : (c .kept ≡ []) × (o .kept ≡ 0) → (c .fillers ≡ []) × (o .fillers ≡ 0) → FaithfulUnkept m roots hints o Pairs → Faithful m roots hints o c Pairs
   and-back (noKept, kept0) (noFillers, fillers0) F = record {
     paired = paired-map (λ x h. inl h) (hinted-alone empty) (F .paired);
@@ -82,13 +90,13 @@ module _ (m : Lent) (roots hints : List ℕ) (o : CollectOutcome) (c : Collectio
       count = kept0 ∙ sym kept-length;
     };
     fills = record {
-      left = λ y k. absurd (unfilled y k);
+      left = λ y k. absurd (no-filler y k);
       all = λ y z k. absurd (empty _ k);
-      object = λ y k. absurd (unfilled y k);
-      unpaired = λ x y k. absurd (unfilled y k);
-      sizes = λ y k. absurd (unfilled y k);
-      counts = λ y k. absurd (unfilled y k);
-      zeros = λ y i k. absurd (unfilled y k);
+      object = λ y k. absurd (no-filler y k);
+      unpaired = λ x y k. absurd (no-filler y k);
+      sizes = λ y k. absurd (no-filler y k);
+      counts = λ y k. absurd (no-filler y k);
+      zeros = λ y i k. absurd (no-filler y k);
       once = λ i j h. absurd (let n : length (c .fillers) ≡ 0 = fillers-length in omega arith);
       count = fillers0 ∙ sym fillers-length;
     };
@@ -103,8 +111,8 @@ module _ (m : Lent) (roots hints : List ℕ) (o : CollectOutcome) (c : Collectio
       empty : (g : ℕ) → List·Memᴰ g (c .kept) → ⊥
       empty = none (c .kept) kept-length
 
-      unfilled : (y : ℕ) → List·Memᴰ y (c .fillers) → ⊥
-      unfilled = none (c .fillers) fillers-length
+      no-filler : (y : ℕ) → List·Memᴰ y (c .fillers) → ⊥
+      no-filler = none (c .fillers) fillers-length
 
       pages : (g : ℕ) → Hinted m hints g ⊎ HoldsCopy m Pairs g → Hinted m hints g ⊎ (HoldsCopy m Pairs g ⊎ List·Memᴰ g (c .kept))
       pages g (inl h) = inl h

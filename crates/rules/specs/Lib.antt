@@ -8,6 +8,8 @@ pub mod Calls
 pub mod Collection
 pub mod Collect
 pub mod Demands
+pub mod InARow
 pub mod Tests
 pub mod Examples
+pub mod InARowExamples
 pub mod Edges

@@ -109,7 +109,7 @@ module _ (W : World) (s : State) (I : Inv W s) (within : Within s) (C : Causes W
       full (yes e) = none-free (s .pages .labels) (W .plan .lo) (W .plan .hi) (cannot-says W s (sizeAt W x) e cant .1)
       full (no n) = C .full (omega arith)
 
-pub causes-how : (W : World) (s t : State) → Inv W s → Within s → Causes W s → How W s t → Causes W t
-causes-how W s t I within C (idle e) = subst (Causes W) (sym e) C
-causes-how W s t I within C (copies x D av e) = subst (Causes W) (sym e) (causes-none W (copied W s x) (copied-kept W s x ∙ av .unkept))
-causes-how W s t I within C (keeps x D cant e) = subst (Causes W) (sym e) (keep-causes W s I within C x D cant)
+pub causes-how : (W : World) (s : State) (v : ℕ) (t : State) → Inv W s → Within s → Causes W s → How W s v t → Causes W t
+causes-how W s v t I within C (idle u p e) = subst (Causes W) (sym e) C
+causes-how W s v t I within C (copies D av e) = subst (Causes W) (sym e) (causes-none W (copied W s v) (copied-kept W s v ∙ av .unkept))
+causes-how W s v t I within C (keeps D cant e) = subst (Causes W) (sym e) (keep-causes W s I within C v D cant)

@@ -24,7 +24,7 @@ use Rattle.laws.specs.FreePages.{not-free, freePages, used-and-free, free-same}
 use Rattle.laws.specs.Room.{words-used}
 use Rattle.theory.specs.Sums.{gather-mem}
 use Rattle.theory.specs.Packing.{packed-none}
-use Rattle.theory.specs.KeptPages.{kept-none}
+use Rattle.theory.specs.KeptPages.{not-kept}
 use Rattle.theory.specs.World.{World, Kept, stayed, went, Place, home, away, Inv}
 use Rattle.theory.specs.Packs.{froms, Packs}
 use Rattle.theory.specs.Causes.{causes-none}
@@ -52,7 +52,7 @@ module _ (m : Lent) (roots hints : List ℕ) (A : Ready m roots) where
 
   -- ---- before the hints, and after them
 
-  U : Unhinted k (begun m)
+  pub U : Unhinted k (begun m)
   unfolding planOf begun
   U = record { old≢0 = label-pos m (S .valid); new≢0 = other≢0 m S; new≢old = other≢label m S; labels = S .labels; queue = refl }
 
@@ -159,7 +159,7 @@ module _ (m : Lent) (roots hints : List ℕ) (A : Ready m roots) where
     heapLength = refl;
     labelsLength = refl;
     used = λ g e. inl refl;
-    kept = λ g h. absurd (List·Memᴰ·not-nil (subst (List·Memᴰ g) (kept-none p (H .kept)) h));
+    kept = λ g h. absurd (not-kept p (H .kept) g h);
     free = λ g e. inl e;
     copyFresh = ap (at (p .labels)) (H .copy) ∙ free-stays 0 (S .zero);
     copyLabel = λ h. absurd (omega (arith, H .fill));

@@ -1,9 +1,8 @@
 -- Forwarding keeps the invariant. What it did is one of three things: nothing, one object copied, or its page kept; each further
 -- invariant is proved from that.
-use mathlib.Core.Path.{_≡_, refl, sym, ap, _∙_, subst}
+use mathlib.Core.Path.{_≡_, refl, sym, ap, _∙_}
 use mathlib.Core.Logic.{_⊎_, inl, inr}
 use mathlib.Core.Bool.{Bool, true, false, cond, _&&_, _||_, true≢false}
-use mathlib.Core.List.{List·Memᴰ, List·Memᴰ·not-nil}
 use Prim.Native.Nat.{ℕ, _+_, _*_, _/_, _%_, _≤_, _<_}
 use native.Mathlib.Nat.{add-zero, mul-div-cancel-left}
 use native.Mathlib.Omega.{arith}
@@ -16,9 +15,8 @@ use Rattle.rules.specs.Pages.{lowestFree}
 use Rattle.rules.specs.Collection.{State, onPages, Forwarded, takePage, withRoom, top, put, copyObject, canCopy, keepPage, keepObject, forward}
 use Rattle.rules.specs.Demands.{Becomes}
 use Rattle.laws.specs.FreePages.{Lowest, lowest-found}
-use Rattle.theory.specs.KeptPages.{kept-none}
-use Rattle.theory.specs.World.{pageOf, labelOf, labelWas, sizeAt, World, Place, live-map, Gone, NotGone, AsBefore, Reach, Kept, stayed, went, Inv}
-use Rattle.theory.specs.Places.{Standing, there, left, standing, some-words, obj-label, old-new-kept, kept-obj, kept-label, gone-or-not}
+use Rattle.theory.specs.World.{pageOf, labelOf, sizeAt, World, Place, live-map, Gone, NotGone, AsBefore, Reach, Kept, stayed, went, Inv}
+use Rattle.theory.specs.Places.{unkept-standing, some-words, obj-label, kept-obj, kept-label, gone-or-not}
 use Rattle.theory.specs.Put.{Ready, put-inv, mem-new}
 use Rattle.theory.specs.Take.{Extends, ext-refl, ext-trans, put-ext, take-inv, take-ext, label-up}
 use Rattle.theory.specs.Keep.{keep-inv, keep-ext, label-there}
@@ -29,6 +27,20 @@ pub record Due (W : World) (s : State) (x : ℕ) : Type 0 where
   pub old : labelOf W s x ≡ W .plan .old
   pub reached : Reach W s x
   pub same : AsBefore W s x
+
+-- it has its header still, and so is not retained so far
+due-header : (W : World) (s : State) (x : ℕ) → Due W s x → at (s .heap) x ≡ at (W .heap) x
+due-header W s x D = simp add-zero at (D .same 0 (some-words W x (D .object)))
+
+pub due-not-gone : (W : World) (s : State) → Inv W s → (x : ℕ) → Due W s x → NotGone s x
+due-not-gone W s I x D m mem q =
+    let a : at (s .heap) (m .from) ≡ 2 * m .to = I .moved m mem .planted in
+    let f : at (s .heap) (m .from) ≡ at (s .heap) x = ap (at (s .heap)) q in
+    omega (arith, due-header W s x D, W .odd x (D .object))
+
+pub due-not-kept : (W : World) (s : State) → Inv W s → (x y : ℕ) → Due W s x → Kept W s x y → ⊥
+due-not-kept W s I x y D (stayed q e) = W .new≢old (sym (q .label) ∙ D .old)
+due-not-kept W s I x y D (went m mem ex ey) = due-not-gone W s I x D m mem (sym ex)
 
 -- n words can be copied: no page is kept so far, and a page is there if they do not fit the copy page
 pub record Avail (W : World) (s : State) (n : ℕ) : Type 0 where
@@ -75,17 +87,17 @@ keeping W s x = onPages s (keepPage (W .plan) (pageOf W x) (s .pages))
 abbrev pub Within : State → Type 0
 Within s = s .pages .kept ≤ length (s .pages .queue)
 
--- what forwarding did to the state
-pub data How (W : World) (s t : State) : Type 0 where
-  idle : t ≡ s → How W s t
-  copies : (x : ℕ) → Due W s x → Avail W s (sizeAt W x) → t ≡ copied W s x → How W s t
-  keeps : (x : ℕ) → Due W s x → canCopy (W .plan) (sizeAt W x) (s .pages) ≡ false → t ≡ keeping W s x → How W s t
+-- what forwarding v did to the state: nothing, where v is 0 or retained already; v copied; or its page kept
+pub data How (W : World) (s : State) (v : ℕ) (t : State) : Type 0 where
+  idle : (u : ℕ) → Becomes (Kept W s) v u → t ≡ s → How W s v t
+  copies : Due W s v → Avail W s (sizeAt W v) → t ≡ copied W s v → How W s v t
+  keeps : Due W s v → canCopy (W .plan) (sizeAt W v) (s .pages) ≡ false → t ≡ keeping W s v → How W s v t
 
 pub record Forwards (W : World) (s : State) (v : ℕ) (f : Forwarded) : Type 0 where
   pub inv : Inv W (f .state)
   pub ext : Extends W s (f .state)
   pub becomes : Becomes (Kept W (f .state)) v (f .value)
-  pub how : How W s (f .state)
+  pub how : How W s v (f .state)
 
 -- ---- an object copied
 
@@ -118,20 +130,17 @@ module _ (W : World) (s : State) (I : Inv W s) (x : ℕ) (D : Due W s x) (av : A
       }
       go false e = more (leb-false _ _ e)
 
-  header-same : at (s .heap) x ≡ at (W .heap) x
-  header-same = simp add-zero at (D .same 0 (some-words W x (D .object)))
-
   -- what copying gives
   copy-is : copyObject (W .plan) x s ≡ record { value = top (W .plan) (roomFor W s x .pages); state = copied W s x }
   unfolding copyObject put
-  copy-is = rw header-same
+  copy-is = rw (due-header W s x D)
 
   copy-forwards : Forwards W s x (record { value = top (W .plan) (roomFor W s x .pages); state = copied W s x })
   copy-forwards = record {
     inv = put-inv W (roomFor W s x) x R;
     ext = ext-trans W s (roomFor W s x) _ (open-room .ext) (put-ext W (roomFor W s x) x R);
     becomes = inr (went (record { from = x; to = top (W .plan) (roomFor W s x .pages) }) (mem-new W (roomFor W s x) x R) refl refl);
-    how = copies x D av refl;
+    how = copies D av refl;
   }
     where
       R : Ready W (roomFor W s x) x
@@ -149,7 +158,7 @@ module _ (W : World) (s : State) (I : Inv W s) (within : Within s) (x : ℕ) (D 
     inv = keep-inv W s I x (D .object) (D .old) within;
     ext = keep-ext W s I x (D .object) (D .old) within;
     becomes = inr (stayed (record { object = D .object; label = unfold keepPage in label-there W s I x (D .object) (D .old) within; notGone = notGone }) refl);
-    how = keeps x D cant refl;
+    how = keeps D cant refl;
   }
 
 -- ---- forwarding
@@ -169,7 +178,7 @@ module _ (W : World) (s : State) (I : Inv W s) where
       go false q = refl
 
   idles : (v u : ℕ) → Becomes (Kept W s) v u → Forwards W s v (record { value = u; state = s })
-  idles v u p = record { inv = I; ext = ext-refl W s; becomes = p; how = idle refl }
+  idles v u p = record { inv = I; ext = ext-refl W s; becomes = p; how = idle u p refl }
 
   -- an object that was not copied has its header
   pub not-gone-header : (v : ℕ) → W .Obj v → NotGone s v → at (s .heap) v ≡ at (W .heap) v
@@ -251,13 +260,10 @@ module _ (W : World) (s : State) (I : Inv W s) where
 module _ (W : World) (s : State) (I : Inv W s) (unkept : s .pages .kept ≡ 0) (x v : ℕ) (P : Place W s x v) where
   -- where no page is kept, no object on a page with the new label has been copied
   new-odd : labelOf W s v ≡ W .plan .new → at (s .heap) v % 2 ≡ 0 → ⊥
-  new-odd l even = go (standing W s I x v l P)
-    where
-      go : Standing W s x v → ⊥
-      go (there k) = let h : at (s .heap) v ≡ at (W .heap) x = I .header x v k in omega (arith, W .odd x (kept-obj W s I x v k))
-      go (left m mem ex ey) =
-          let old : labelWas W v ≡ W .plan .old = ap (labelWas W) (ey ∙ ex) ∙ I .moved m mem .old in
-          List·Memᴰ·not-nil (subst (List·Memᴰ (pageOf W v)) (kept-none (s .pages) unkept) (old-new-kept W s I (pageOf W v) old l .listed))
+  new-odd l even =
+      let k : Kept W s x v = unkept-standing W s I unkept x v l P in
+      let h : at (s .heap) v ≡ at (W .heap) x = I .header x v k in
+      omega (arith, W .odd x (kept-obj W s I x v k))
 
   -- so it makes no difference that a copy is asked for before the label, where document 01 has the label first
   pub order-agrees : forward (W .plan) v s ≡ cond (eqb v 0) (record { value = 0; state = s })

@@ -16,7 +16,7 @@ use Rattle.rules.specs.Demands.{Becomes}
 use Rattle.laws.specs.Safe.{SafeForward}
 use Rattle.theory.specs.World.{Swept, becomes-map, pageOf, labelOf, sizeAt, refsAt, World, stay, Reach, Kept, stayed, went, Region, Inv}
 use Rattle.theory.specs.Places.{some-words, kept-obj, kept-region}
-use Rattle.theory.specs.Put.{Ready, put-inv, top-page, kept-split}
+use Rattle.theory.specs.Put.{Ready, put-inv, top-page, mem-new, kept-split}
 use Rattle.theory.specs.Take.{Extends, ext-trans, ext-kept, put-ext, take-back}
 use Rattle.theory.specs.Keep.{Comes, kept-split as keep-split, keep-inv, keep-ext}
 use Rattle.theory.specs.Forward.{Due, Avail, roomFor, copied, keeping, How, idle, copies, keeps, Forwards, Opened, open-room, forward-forwards}
@@ -138,12 +138,33 @@ module _ (W : World) (s : State) (G : Good W s) (x : ℕ) (D : Due W s x) (av : 
   unfolding put
   copy-good = record {
     inv = put-inv W t x R;
-    packs = packs-how W s t′ (G .inv) (G .packs) (copies x D av refl);
+    packs = packs-how W s x t′ (G .inv) (G .packs) (copies D av refl);
     tiled = put-tiled W t x R (room .tiled);
     lined = put-lined W t x R (room .lined);
-    causes = causes-how W s t′ (G .inv) (packs-within W s (G .packs)) (G .causes) (copies x D av refl);
+    causes = causes-how W s x t′ (G .inv) (packs-within W s (G .packs)) (G .causes) (copies D av refl);
     filled = omega (arith, some-words W x (D .object));
   }
+
+  -- where it goes: the last page of the queue
+  abbrev y : ℕ
+  y = top (W .plan) (t .pages)
+
+  pub copy-last : (l : ℕ) × (length (t′ .pages .queue) ≡ suc l) × (at (t′ .pages .queue) l ≡ pageOf W y)
+  unfolding put
+  copy-last =
+      let (l, len, e) = room .lined .last (room .unkept) (omega (arith, some-words W x (D .object), R .room)) in
+      (l, len, e ∙ sym (top-page W t x R))
+
+  -- it is retained there, and else what was retained before
+  pub copy-kept : Kept W t′ x y
+  copy-kept = went (record { from = x; to = y }) (mem-new W t x R) refl refl
+
+  pub copy-split : (a b : ℕ) → Kept W t′ a b → Kept W s a b ⊎ ((a ≡ x) × (b ≡ y))
+  copy-split a b k = go (kept-split W t x R a b k)
+    where
+      go : Kept W t a b ⊎ ((a ≡ x) × (b ≡ y)) → Kept W s a b ⊎ ((a ≡ x) × (b ≡ y))
+      go (inl k) = inl (room .back a b k)
+      go (inr e) = inr e
 
   copy-grow : Grow W s t′
   unfolding put
@@ -151,21 +172,18 @@ module _ (W : World) (s : State) (G : Good W s) (x : ℕ) (D : Due W s x) (av : 
     region = E .region;
     kept = ext-kept W s t′ E;
     swept = ext-swept W s t′ (G .inv) E;
-    fresh = λ a b k. fresh a b (kept-split W t x R a b k);
+    fresh = λ a b k. fresh a b (copy-split a b k);
     longer = room .longer;
     prefix = room .prefix;
   }
     where
-      pg : pageOf W (top (W .plan) (t .pages)) ≡ t .pages .copy
-      pg = top-page W t x R
-
-      fresh : (a b : ℕ) → Kept W t a b ⊎ ((a ≡ x) × (b ≡ top (W .plan) (t .pages))) → Kept W s a b ⊎ Fresh W s t′ b
-      fresh a b (inl k) = inl (room .back a b k)
+      fresh : (a b : ℕ) → Kept W s a b ⊎ ((a ≡ x) × (b ≡ y)) → Kept W s a b ⊎ Fresh W s t′ b
+      fresh a b (inl k) = inl k
       fresh a b (inr (ea, eb)) =
-          let (l, len, e) = room .lined .last (room .unkept) (omega (arith, some-words W x (D .object), R .room)) in
+          let (l, len, e) = copy-last in
           inr (record {
-            beyond = λ w r q. rw eb (O .ext .region w r .below (q ∙ ap (pageOf W) eb ∙ pg));
-            atEnd = (l, omega (arith, room .longer), omega arith, e ∙ sym pg ∙ ap (pageOf W) (sym eb));
+            beyond = λ w r q. rw eb (O .ext .region w r .below (q ∙ ap (pageOf W) eb ∙ top-page W t x R));
+            atEnd = (l, omega (arith, room .longer), omega arith, e ∙ ap (pageOf W) (sym eb));
           })
 
 -- ---- its page kept
@@ -181,10 +199,10 @@ module _ (W : World) (s : State) (G : Good W s) (x : ℕ) (D : Due W s x) (cant 
   unfolding keepPage
   keep-good = record {
     inv = keep-inv W s (G .inv) x (D .object) (D .old) within;
-    packs = packs-how W s k′ (G .inv) (G .packs) (keeps x D cant refl);
+    packs = packs-how W s x k′ (G .inv) (G .packs) (keeps D cant refl);
     tiled = keep-tiled W s (G .inv) x (D .object) (D .old) within (G .tiled);
     lined = keep-lined W s (G .inv) x (D .object) (D .old) within (G .lined);
-    causes = causes-how W s k′ (G .inv) within (G .causes) (keeps x D cant refl);
+    causes = causes-how W s x k′ (G .inv) within (G .causes) (keeps D cant refl);
     filled = G .filled;
   }
 
@@ -214,15 +232,15 @@ module _ (W : World) (s : State) (G : Good W s) (x : ℕ) (D : Due W s x) (cant 
 
 -- ---- forwarding, in all
 
-pub how-good : (W : World) (s t : State) → Good W s → How W s t → Good W t
-how-good W s t G (idle e) = subst (Good W) (sym e) G
-how-good W s t G (copies x D av e) = subst (Good W) (sym e) (copy-good W s G x D av)
-how-good W s t G (keeps x D cant e) = subst (Good W) (sym e) (keep-good W s G x D cant)
+pub how-good : (W : World) (s : State) (v : ℕ) (t : State) → Good W s → How W s v t → Good W t
+how-good W s v t G (idle u p e) = subst (Good W) (sym e) G
+how-good W s v t G (copies D av e) = subst (Good W) (sym e) (copy-good W s G v D av)
+how-good W s v t G (keeps D cant e) = subst (Good W) (sym e) (keep-good W s G v D cant)
 
-pub how-grow : (W : World) (s t : State) → Good W s → How W s t → Grow W s t
-how-grow W s t G (idle e) = subst (Grow W s) (sym e) (grow-refl W s)
-how-grow W s t G (copies x D av e) = subst (Grow W s) (sym e) (copy-grow W s G x D av)
-how-grow W s t G (keeps x D cant e) = subst (Grow W s) (sym e) (keep-grow W s G x D cant)
+pub how-grow : (W : World) (s : State) (v : ℕ) (t : State) → Good W s → How W s v t → Grow W s t
+how-grow W s v t G (idle u p e) = subst (Grow W s) (sym e) (grow-refl W s)
+how-grow W s v t G (copies D av e) = subst (Grow W s) (sym e) (copy-grow W s G v D av)
+how-grow W s v t G (keeps D cant e) = subst (Grow W s) (sym e) (keep-grow W s G v D cant)
 
 -- a state reached, with the value that v has become; and it was safe to go there
 pub record Went (W : World) (s : State) (v : ℕ) (f : Forwarded) (Safe : Type 0) : Type 0 where
@@ -230,15 +248,17 @@ pub record Went (W : World) (s : State) (v : ℕ) (f : Forwarded) (Safe : Type 0
   pub good : Good W (f .state)
   pub grow : Grow W s (f .state)
   pub becomes : Becomes (Kept W (f .state)) v (f .value)
+  pub how : How W s v (f .state)
 
 pub forward-went : (W : World) (s : State) → Good W s → (v : ℕ) → (v ≡ 0) ⊎ (W .Obj v × Reach W s v) → Went W s v (forward (W .plan) v s) (SafeForward (W .plan) v s)
 forward-went W s G v h =
     let F : Forwards W s v (forward (W .plan) v s) = forward-forwards W s (G .inv) (packs-within W s (G .packs)) v h in
     record {
       safe = forward-safe W s (G .inv) (G .packs) (G .lined .queued) v (either h);
-      good = how-good W s _ G (F .how);
-      grow = how-grow W s _ G (F .how);
+      good = how-good W s v _ G (F .how);
+      grow = how-grow W s v _ G (F .how);
       becomes = F .becomes;
+      how = F .how;
     }
   where
     either : (v ≡ 0) ⊎ (W .Obj v × Reach W s v) → (v ≡ 0) ⊎ ((W .Obj v × Reach W s v) ⊎ (labelOf W s v ≡ W .plan .new))

@@ -185,3 +185,47 @@ module _ (k : Plan) (b : Pages) (U : Unhinted k b) (named : List ℕ) where
       room j e =
           let h : length (s .queue) < length (s .labels) = queue-room (k .new) (s .labels) (s .queue) j (U .new≢0) (old-inside s j e) (old-not-new s j e) (H .queued) in
           omega (arith, H .labelsLength)
+
+-- ---- two readings of the same list
+
+-- of the pages named, the same ones have the old label
+abbrev pub SameOld : Plan → Plan → List ℕ → Pages → Pages → Type 0
+SameOld k l gs p q = (g : ℕ) → List·Memᴰ g gs → (at (p .labels) g ≡ k .old → at (q .labels) g ≡ l .old) × (at (q .labels) g ≡ l .old → at (p .labels) g ≡ k .old)
+
+-- a page that has the old label after g joined is another, and had it before
+still-old : (k : Plan) (b : Pages) → Unhinted k b → (p : Pages) (g h : ℕ) → at (p .labels) g ≡ k .old → at (set (p .labels) g (k .new)) h ≡ k .old → (h ≢ g) × (at (p .labels) h ≡ k .old)
+still-old k b U p g h e z = (other, sym (getD-set-other (p .labels) g h (k .new) 0 other) ∙ z)
+  where
+    other : h ≢ g
+    other q = U .new≢old (sym (getD-set-same (p .labels) g (k .new) 0 (in-range (p .labels) g (λ y. U .old≢0 (sym e ∙ y)))) ∙ ap (at (set (p .labels) g (k .new))) (sym q) ∙ z)
+
+module _ (k l : Plan) (b d : Pages) (U : Unhinted k b) (U′ : Unhinted l d) where
+  -- then the same pages join, in the same order
+  pub queues-same : (gs : List ℕ) (p q : Pages) → q .queue ≡ p .queue → SameOld k l gs p q → hintPages l gs q .queue ≡ hintPages k gs p .queue
+  unfolding hintPages hintPage
+  queues-same [] p q e same = e
+  queues-same (g ∷ gs) p q e same =
+      go (queues-same gs) (eqb (at (p .labels) g) (k .old)) refl (eqb (at (q .labels) g) (l .old)) refl
+    where
+      joined : Plan → Pages → Pages
+      joined j p = record { labels = set (p .labels) g (j .new); queue = p .queue ++ (g ∷ []); copy = p .copy; fill = p .fill; kept = p .kept }
+
+      here : (at (p .labels) g ≡ k .old → at (q .labels) g ≡ l .old) × (at (q .labels) g ≡ l .old → at (p .labels) g ≡ k .old)
+      here = same g (List·Memᴰ·head refl)
+
+      rest : SameOld k l gs p q
+      rest h mem = same h (List·Memᴰ·tail mem)
+
+      both : at (p .labels) g ≡ k .old → at (q .labels) g ≡ l .old → SameOld k l gs (joined k p) (joined l q)
+      both ep eq h mem = (
+        λ z. let (n, o) = still-old k b U p g h ep z in getD-set-other (q .labels) g h (l .new) 0 n ∙ rest h mem .0 o,
+        λ z. let (n, o) = still-old l d U′ q g h eq z in getD-set-other (p .labels) g h (k .new) 0 n ∙ rest h mem .1 o,
+      )
+
+      go : ((p q : Pages) → q .queue ≡ p .queue → SameOld k l gs p q → hintPages l gs q .queue ≡ hintPages k gs p .queue)
+          → (x : Bool) → eqb (at (p .labels) g) (k .old) ≡ x → (y : Bool) → eqb (at (q .labels) g) (l .old) ≡ y
+          → hintPages l gs (cond y (joined l q) q) .queue ≡ hintPages k gs (cond x (joined k p) p) .queue
+      go ih true ex true ey = ih (joined k p) (joined l q) (ap (λ (z : List ℕ). z ++ (g ∷ [])) e) (both (eqb-true _ _ ex) (eqb-true _ _ ey))
+      go ih false ex false ey = ih p q e rest
+      go ih true ex false ey = absurd (eqb-false _ _ ey (here .0 (eqb-true _ _ ex)))
+      go ih false ex true ey = absurd (eqb-false _ _ ex (here .1 (eqb-true _ _ ey)))

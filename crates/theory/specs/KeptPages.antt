@@ -1,6 +1,6 @@
 -- The pages kept for want of room, which stand last in the queue.
-use mathlib.Core.Path.{_≡_, sym, ap, _∙_}
-use mathlib.Core.List.{[], _∷_, _++_}
+use mathlib.Core.Path.{_≡_, sym, ap, _∙_, subst}
+use mathlib.Core.List.{[], _∷_, _++_, List·Memᴰ, List·Memᴰ·not-nil}
 use Prim.Native.Nat.{ℕ, _+_, _-_, _≤_}
 use native.Mathlib.Omega.{arith}
 use lib.ListN.{length, drop, length-drop, length-append, drop-of-length-le}
@@ -12,6 +12,9 @@ use Rattle.rules.specs.Demands.{Once}
 pub kept-none : (p : Pages) → p .kept ≡ 0 → keptPages p ≡ []
 unfolding keptPages
 kept-none p e = drop-of-length-le (p .queue) {i = length (p .queue) - p .kept} (omega arith)
+
+pub not-kept : (p : Pages) → p .kept ≡ 0 → (g : ℕ) → List·Memᴰ g (keptPages p) → ⊥
+not-kept p e g k = List·Memᴰ·not-nil (subst (List·Memᴰ g) (kept-none p e) k)
 
 pub kept-length : (p : Pages) → p .kept ≤ length (p .queue) → length (keptPages p) ≡ p .kept
 unfolding keptPages

@@ -24,6 +24,12 @@ pub mod SweepQueue
 pub mod Fillers
 pub mod FillPage
 pub mod FillPages
+-- two collections in step
+pub mod NoneKept
+pub mod Alike
+pub mod AlikeReferences
+pub mod AlikePage
+pub mod AlikeRun
 -- from the tests of collect to the first state, and from the last one to what is lent after
 pub mod Hints
 pub mod SoundHeap
@@ -35,5 +41,6 @@ pub mod Covers
 pub mod After
 pub mod Pairing
 pub mod Taken
+pub mod Twice
 -- what is proved
 pub mod Collections

@@ -4,8 +4,8 @@ use mathlib.Core.Path.{_≡_, refl, sym, ap, _∙_, subst}
 use mathlib.Core.Logic.{_⊎_, inl, inr}
 use mathlib.Core.Bool.{Bool, true, false, cond}
 use mathlib.Core.List.{List, [], _∷_, _++_, List·Memᴰ, List·Memᴰ·head, List·Memᴰ·tail, List·Memᴰ·cases-cons, List·Memᴰ·append-cases, List·Memᴰ·eq-of-singleton, List·Memᴰ·not-nil, Memᴰ·cast}
-use Prim.Native.Nat.{ℕ, _+_, _*_, _≤_, _<_}
-use native.Mathlib.Nat.{add-zero, zero-add}
+use Prim.Native.Nat.{ℕ, _+_, _≤_, _<_}
+use native.Mathlib.Nat.{zero-add}
 use native.Mathlib.Omega.{arith}
 use lib.Dec.{leb}
 use lib.ListN.{length, set, length-append}
@@ -17,12 +17,12 @@ use Rattle.laws.specs.Walk.{size}
 use Rattle.laws.specs.FreePages.{Lowest, freePages, lowest, free-less, free-same, free-relabelled}
 use Rattle.theory.specs.Sums.{sum-snoc, Distinct, distinct-snoc, sub-sum}
 use Rattle.theory.specs.Packing.{Packed, packed-same, packed-new, packed-enough}
-use Rattle.theory.specs.World.{pageOf, sizeAt, World, NotGone, Inv}
+use Rattle.theory.specs.World.{pageOf, sizeAt, World, Inv}
 use Rattle.theory.specs.Places.{some-words, old-before}
 use Rattle.theory.specs.Put.{put-moves}
 use Rattle.theory.specs.Take.{page-inside}
 use Rattle.theory.specs.Keep.{page-inside as kept-inside}
-use Rattle.theory.specs.Forward.{Due, Avail, cannot-says, Within, How, idle, copies, keeps, copied, keeping}
+use Rattle.theory.specs.Forward.{Due, due-not-gone, Avail, cannot-says, Within, How, idle, copies, keeps, copied, keeping}
 
 -- ---- the objects that were copied
 
@@ -86,15 +86,8 @@ module _ (W : World) (s : State) (I : Inv W s) (K : Packs W s) where
   packs-few fp = packed-enough (wordsOld W) words-old fp (K .packed)
 
   module _ (x : ℕ) (D : Due W s x) where
-    not-gone : NotGone s x
-    not-gone m mem q =
-        let a : at (s .heap) (m .from) ≡ 2 * m .to = I .moved m mem .planted in
-        let b : at (s .heap) x ≡ at (W .heap) x = simp add-zero at (D .same 0 (some-words W x (D .object))) in
-        let f : at (s .heap) (m .from) ≡ at (s .heap) x = ap (at (s .heap)) q in
-        omega (arith, W .odd x (D .object))
-
     not-copied : List·Memᴰ x (froms (s .moves)) → ⊥
-    not-copied h = let (m, k, e) = mem-froms (s .moves) h in not-gone m k (sym e)
+    not-copied h = let (m, k, e) = mem-froms (s .moves) h in due-not-gone W s I x D m k (sym e)
 
     pub words-left : wordsOf W s + sizeAt W x ≤ wordsOld W
     words-left =
@@ -195,7 +188,7 @@ keep-packs W s I K x D cant = record {
     same : (g : ℕ) → isFree (set (s .pages .labels) (pageOf W x) (W .plan .new)) g ≡ isFree (s .pages .labels) g
     same = free-relabelled (s .pages .labels) (pageOf W x) (W .plan .new) (λ q. W .old≢0 (sym (D .old) ∙ q)) (W .new≢0) (kept-inside W s I x (D .object) (D .old) (packs-within W s K))
 
-pub packs-how : (W : World) (s t : State) → Inv W s → Packs W s → How W s t → Packs W t
-packs-how W s t I K (idle e) = subst (Packs W) (sym e) K
-packs-how W s t I K (copies x D av e) = subst (Packs W) (sym e) (copy-packs W s I K x D av)
-packs-how W s t I K (keeps x D cant e) = subst (Packs W) (sym e) (keep-packs W s I K x D cant)
+pub packs-how : (W : World) (s : State) (v : ℕ) (t : State) → Inv W s → Packs W s → How W s v t → Packs W t
+packs-how W s v t I K (idle u p e) = subst (Packs W) (sym e) K
+packs-how W s v t I K (copies D av e) = subst (Packs W) (sym e) (copy-packs W s I K v D av)
+packs-how W s v t I K (keeps D cant e) = subst (Packs W) (sym e) (keep-packs W s I K v D cant)

@@ -30,7 +30,7 @@ use Rattle.laws.specs.Objects.{page-pos}
 use Rattle.laws.specs.Valid.{label-pos}
 use Rattle.theory.specs.FirstState.{world, hinted-new, new-hinted, used-kind, free-stays}
 use Rattle.theory.specs.Run.{W as worldOf, r as rootedOf, t as sweptOf, roots-done, all-done}
-use Rattle.theory.specs.After.{m′ as lentOf, inv, F as filledOf, first-place, kept-object, object-standing, left-object, left-header, left-zeros, kept-word, kept-header, kept-reference, new-in-use, in-use-new}
+use Rattle.theory.specs.After.{m′ as lentOf, inv, after-sound, F as filledOf, first-place, kept-object, object-standing, left-object, left-header, left-zeros, kept-word, kept-header, kept-reference, new-in-use, in-use-new}
 use Rattle.theory.specs.Plainly.{unlogged}
 use Rattle.theory.specs.Taken.{free-taken}
 
@@ -70,7 +70,7 @@ module _ (m : Lent) (roots hints : List ℕ) (A : Ready m roots) where
   unfolding world planOf
   moved-unhinted j mem h = other≢label m S (sym (hinted-new m roots hints A (j .from / m .rec .page) h) ∙ inv m roots hints A .moved j mem .old)
 
-  hinted-stays : (x : ℕ) → IsObject m x → Hinted m hints (x / m .rec .page) → Stays W s x
+  pub hinted-stays : (x : ℕ) → IsObject m x → Hinted m hints (x / m .rec .page) → Stays W s x
   unfolding world planOf
   hinted-stays x ob h = record {
     object = ob;
@@ -307,3 +307,17 @@ module _ (m : Lent) (roots hints : List ℕ) (A : Ready m roots) where
   pub faithful : Faithful m roots hints outcome told Pairs
   unfolding acceptedCollect collection
   faithful = record { paired = paired-all; nothing = object-told; stays = hinted-same; pages = pages; keeps = keeps; fills = fills }
+
+  -- so a program may collect again
+  pub after-ready : Ready m′ (outcome .roots)
+  unfolding acceptedCollect collection
+  after-ready = record { sound = after-sound m roots hints A; roots = roots-good }
+    where
+      good : (v u : ℕ) → Becomes Pairs v u → (u ≡ 0) ⊎ IsObject m′ u
+      good v u (inl z) = inl (z .1)
+      good v u (inr p) = inr (kept-object m roots hints A v u p)
+
+      roots-good : (r : ℕ) → List·Memᴰ r (rootedOf m roots hints A .roots) → (r ≡ 0) ⊎ IsObject m′ r
+      roots-good r k =
+          let (j, l, e) = mem-at (rootedOf m roots hints A .roots) r k in
+          subst (λ (u : ℕ). (u ≡ 0) ⊎ IsObject m′ u) e (good _ _ (root-becomes j (omega (arith, roots-done m roots hints A .cells))))

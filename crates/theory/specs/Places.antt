@@ -16,6 +16,7 @@ use Rattle.laws.specs.Pages.{split-page, same-page, pages-apart}
 use Rattle.laws.specs.Safe.{SafeStep}
 use Rattle.laws.specs.Walk.{size}
 use Rattle.laws.specs.Words.{in-range}
+use Rattle.theory.specs.KeptPages.{not-kept}
 use Rattle.theory.specs.World.{pageOf, labelOf, labelWas, sizeAt, World, Gone, NotGone, AsBefore, Kept, stayed, went, Place, home, away, kept-place, Region, Moved, KeptPage, LabelledOrKept, Inv}
 
 -- two places: the same one, or one ends before the other begins
@@ -196,6 +197,16 @@ module _ (W : World) (s : State) (I : Inv W s) where
       go : Gone s x ⊎ NotGone s x → Standing W s x y
       go (inl (m, mem, ex)) = left m mem ex e
       go (inr n) = there (stayed (record { object = ob; label = ap (labelOf W s) (sym e) ∙ l; notGone = n }) e)
+
+  -- where no page is kept, it is one
+  pub unkept-standing : s .pages .kept ≡ 0 → (x y : ℕ) → labelOf W s y ≡ W .plan .new → Place W s x y → Kept W s x y
+  unkept-standing none x y l p = go (standing x y l p)
+    where
+      go : Standing W s x y → Kept W s x y
+      go (there k) = k
+      go (left m mem ex ey) =
+          let old : labelWas W y ≡ W .plan .old = ap (labelWas W) (ey ∙ ex) ∙ I .moved m mem .old in
+          absurd (not-kept (s .pages) none (pageOf W y) (old-new-kept (pageOf W y) old l .listed))
 
   -- none of its words is where an object was copied from
   pub kept-from : (x y : ℕ) → Kept W s x y → (m : Move) → List·Memᴰ m (s .moves)

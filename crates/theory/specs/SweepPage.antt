@@ -15,7 +15,7 @@ use Rattle.rules.specs.Collection.{Move, State, sweepReferences, sweepPage}
 use Rattle.laws.specs.Headers.{header-is, Left, left-is, left-odd, left-no-header}
 use Rattle.laws.specs.Pages.{split-page, same-page}
 use Rattle.laws.specs.Safe.{SafeReferences, SafePage}
-use Rattle.theory.specs.World.{Swept, pageOf, labelOf, sizeAt, refsAt, World, Kept, Place, home, kept-place, Region}
+use Rattle.theory.specs.World.{Swept, pageOf, labelOf, sizeAt, refsAt, World, Kept, Place, home, kept-place, Region, Inv}
 use Rattle.theory.specs.Places.{SameOrApart, some-words, Standing, there, left, place-obj, kept-obj, place-fits, kept-fits, place-end as place-ends, kept-apart, kept-region, kept-from, standing, left-word, left-size, left-step}
 use Rattle.theory.specs.Cursor.{Cursor, at-place, at-stop, behind-place}
 use Rattle.theory.specs.Good.{Good, Fresh, Grow, grow-refl, grow-trans}
@@ -35,6 +35,10 @@ Before W s g a = (x y : ℕ) → Kept W s x y → pageOf W y ≡ g → y < a →
 
 abbrev pub InQueue : State → ℕ → Type 0
 InQueue s g = (j : ℕ) × (j < length (s .pages .queue)) × (at (s .pages .queue) j ≡ g)
+
+-- such a page has the new label
+pub queued-label : (W : World) (s : State) → Good W s → (g : ℕ) → InQueue s g → (a : ℕ) → pageOf W a ≡ g → labelOf W s a ≡ W .plan .new
+queued-label W s G g (j, lt, e) a pg = ap (at (s .pages .labels)) (pg ∙ sym e) ∙ G .lined .queued .only j lt
 
 abbrev pub PageOk : World → ℕ → ℕ → Type 0
 PageOk W g f = (a room : ℕ) (s : State) → Good W s → InQueue s g → a + room ≡ g * W .plan .page + W .plan .page → room ≤ f → Cursor W s g a room → Before W s g a
@@ -56,19 +60,26 @@ page-none W g a room s G Q e le (at-stop h n none bl tp) before = page-end W g a
 page-none W g a room s G Q e le (at-place x K pg) before =
     absurd (omega (arith, place-fits W s (G .inv) x a K, split-page (W .plan .page) a, ap (λ (k : ℕ). k * W .plan .page) pg, W .shape x (place-obj W s (G .inv) x a K)))
 
+-- a retained object: it fits, and the walk meets its header
+module _ (W : World) (g a room : ℕ) (s : State) (I : Inv W s) (e : a + room ≡ g * W .plan .page + W .plan .page) (x : ℕ) (K : Kept W s x a) (pg : pageOf W a ≡ g) where
+  pub object-fits : sizeAt W x ≤ room
+  object-fits = omega (arith, place-ends W s I g x a (kept-place W s K) pg)
+
+  object-header : isHeader (at (W .heap) x) room ≡ true
+  object-header = let ob = kept-obj W s I x a K in header-is (at (W .heap) x) room (record { odd = W .odd x ob; shape = W .shape x ob; fits = object-fits })
+
+  -- so its references are swept, and then what is behind it
+  pub object-step : (f : ℕ) → sweepPage (W .plan) (suc f) a room s ≡ sweepPage (W .plan) f (a + sizeAt W x) (room - sizeAt W x) (sweepReferences (W .plan) (refsAt W x) (suc a) s)
+  unfolding sweepPage
+  object-step f = rw (I .header x a K, object-header)
+
 module _ (W : World) (g f a room : ℕ) (s : State) (G : Good W s) (Q : InQueue s g) (e : a + room ≡ g * W .plan .page + W .plan .page) (le : room ≤ suc f)
     (x : ℕ) (K : Kept W s x a) (pg : pageOf W a ≡ g) (before : Before W s g a) where
   ob : W .Obj x
   ob = kept-obj W s (G .inv) x a K
 
-  hd : at (s .heap) a ≡ at (W .heap) x
-  hd = G .inv .header x a K
-
   fits : sizeAt W x ≤ room
-  fits = omega (arith, kept-fits W s (G .inv) x a K, split-page (W .plan .page) a, ap (λ (k : ℕ). k * W .plan .page) pg)
-
-  is : isHeader (at (W .heap) x) room ≡ true
-  is = header-is (at (W .heap) x) room (record { odd = W .odd x ob; shape = W .shape x ob; fits = fits })
+  fits = object-fits W g a room s (G .inv) e x K pg
 
   -- its references are swept first
   abbrev t : State
@@ -105,12 +116,12 @@ module _ (W : World) (g f a room : ℕ) (s : State) (G : Good W s) (Q : InQueue 
   in-queue = let (j, lt, q) = Q in (j, le-trans lt (swept .grow .longer), swept .grow .prefix j lt ∙ q)
 
   page-place : PageOk W g f → PageDone W s g (sweepPage (W .plan) (suc f) a room s) (SafePage (W .plan) (suc f) a room s)
-  unfolding sweepPage SafePage
+  unfolding SafePage
   page-place ih =
       let r : PageDone W t g (sweepPage (W .plan) f (a + sizeAt W x) (room - sizeAt W x) t) (SafePage (W .plan) f (a + sizeAt W x) (room - sizeAt W x) t) =
       ih (a + sizeAt W x) (room - sizeAt W x) t (swept .good) in-queue (omega (arith, fits)) (omega (arith, W .shape x ob, fits))
       (behind-place W t (swept .good .inv) (swept .good .tiled) g x a (room - sizeAt W x) (kept-place W t (swept .grow .kept x a K)) pg (omega (arith, fits))) before′ in
-      rw (hd, is, left-odd (at (W .heap) x) room (W .odd x ob)) (record { safe = (λ z. (swept .safe, r .safe), λ z. absurd (true≢false (sym z))); good = r .good; grow = grow-trans W s t _ (swept .grow) (r .grow); done = r .done })
+      rw (object-step W g a room s (G .inv) e x K pg f, G .inv .header x a K, object-header W g a room s (G .inv) e x K pg, left-odd (at (W .heap) x) room (W .odd x ob)) (record { safe = (λ z. (swept .safe, r .safe), λ z. absurd (true≢false (sym z))); good = r .good; grow = grow-trans W s t _ (swept .grow) (r .grow); done = r .done })
 
 -- where an object was that is copied
 module _ (W : World) (g f a room : ℕ) (s : State) (G : Good W s) (Q : InQueue s g) (e : a + room ≡ g * W .plan .page + W .plan .page) (le : room ≤ suc f)
@@ -155,11 +166,8 @@ page-more W g f ih a room s G Q e le (at-stop h n none bl tp) before = go
   where
     go : PageDone W s g (sweepPage (W .plan) (suc f) a room s) (SafePage (W .plan) (suc f) a room s)
     go = unfold sweepPage SafePage in rw (h, n) (page-end W g a s _ (λ z. absurd (true≢false (sym z)), λ z. absurd (true≢false (sym z))) G none before)
-page-more W g f ih a room s G Q e le (at-place x K pg) before = go (standing W s (G .inv) x a label K)
+page-more W g f ih a room s G Q e le (at-place x K pg) before = go (standing W s (G .inv) x a (queued-label W s G g Q a pg) K)
   where
-    label : labelOf W s a ≡ W .plan .new
-    label = let (j, lt, q) = Q in ap (at (s .pages .labels)) (pg ∙ sym q) ∙ G .lined .queued .only j lt
-
     go : Standing W s x a → PageDone W s g (sweepPage (W .plan) (suc f) a room s) (SafePage (W .plan) (suc f) a room s)
     go (there k) = page-place W g f a room s G Q e le x k pg before ih
     go (left m mem ex ey) = page-left W g f a room s G Q e le m mem (ap (pageOf W) (sym (ey ∙ ex)) ∙ pg) (ey ∙ ex) before ih

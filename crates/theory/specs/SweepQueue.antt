@@ -44,6 +44,21 @@ QueueDone W s i = (j : ℕ) → j < i → j < length (s .pages .queue) → (x y 
 abbrev pub QueueOk : World → ℕ → Type 0
 QueueOk W f = (i : ℕ) (s : State) → Good W s → length (W .labels) ≤ i + f → QueueDone W s i → AllDone W s (sweepQueue (W .plan) f i s) (SafeQueue (W .plan) f i s)
 
+-- a page of the queue is in use, so it begins with a place
+page-used : (W : World) (i : ℕ) (s : State) → Good W s → i < length (s .pages .queue) → at (s .pages .labels) (at (s .pages .queue) i) ≢ 0
+page-used W i s G h z = W .new≢0 (sym (G .lined .queued .only i h) ∙ z)
+
+pub page-start : (W : World) (i : ℕ) (s : State) → Good W s → i < length (s .pages .queue)
+    → Cursor W s (at (s .pages .queue) i) (at (s .pages .queue) i * W .plan .page) (W .plan .page)
+page-start W i s G h = go (G .tiled .first g (page-used W i s G h))
+  where
+    g : ℕ
+    g = at (s .pages .queue) i
+
+    go : Begins W s g → Cursor W s g (g * W .plan .page) (W .plan .page)
+    go (inl (x, k)) = at-place x k (first-on-page (W .pos) g)
+    go (inr (a, b)) = absurd (omega (arith, G .filled))
+
 module _ (W : World) (i : ℕ) (s : State) (G : Good W s) (before : QueueDone W s i) where
   abbrev g : ℕ
   g = at (s .pages .queue) i
@@ -56,24 +71,14 @@ module _ (W : World) (i : ℕ) (s : State) (G : Good W s) (before : QueueDone W 
       let (j, lt, e) = G .lined .queued .all (pageOf W y) (kept-label W s (G .inv) x y K) in
       before j (omega arith) lt x y K (sym e)
 
-  -- the page of the queue is in use, so it begins with a place, and lies in the heap
-  used : i < length (s .pages .queue) → at (s .pages .labels) g ≢ 0
-  used h z = W .new≢0 (sym (G .lined .queued .only i h) ∙ z)
-
-  start : i < length (s .pages .queue) → Cursor W s g (g * W .plan .page) (W .plan .page)
-  start h = go (G .tiled .first g (used h))
-    where
-      go : Begins W s g → Cursor W s g (g * W .plan .page) (W .plan .page)
-      go (inl (x, k)) = at-place x k (first-on-page (W .pos) g)
-      go (inr (a, b)) = absurd (omega (arith, G .filled))
-
+  -- it lies in the heap
   inside : i < length (s .pages .queue) → g * W .plan .page + W .plan .page ≤ length (s .heap)
   inside h =
-      let lt : g < length (W .labels) = omega (arith, in-range (s .pages .labels) g (used h), G .inv .labelsLength) in
+      let lt : g < length (W .labels) = omega (arith, in-range (s .pages .labels) g (page-used W i s G h), G .inv .labelsLength) in
       omega (arith, page-end g (W .plan .page) (length (W .labels)) lt, W .heapLength, G .inv .heapLength)
 
   page : i < length (s .pages .queue) → PageDone W s g t (SafePage (W .plan) (W .plan .page) (g * W .plan .page) (W .plan .page) s)
-  page h = sweep-page W g (W .plan .page) (g * W .plan .page) (W .plan .page) s G (i, h, refl) refl (le-refl _) (start h) (λ x y k q lt. absurd (omega (arith, page-on (W .pos) y g q .0)))
+  page h = sweep-page W g (W .plan .page) (g * W .plan .page) (W .plan .page) s G (i, h, refl) refl (le-refl _) (page-start W i s G h) (λ x y k q lt. absurd (omega (arith, page-on (W .pos) y g q .0)))
 
   one-more : {Safe : Type 0} → i < length (s .pages .queue) → PageDone W s g t Safe → QueueDone W t (suc i)
   one-more h D j lt lt′ x y K e k low high = go (ℕ-discrete j i)
@@ -124,13 +129,20 @@ pub record RootsDone (W : World) (s : State) (rs : List ℕ) (k : Rooted) (Safe 
   pub cells : length (k .roots) ≡ length rs
   pub becomes : (j : ℕ) → j < length rs → Becomes (Kept W (k .state)) (at rs j) (at (k .roots) j)
 
-pub forward-roots : (W : World) (rs : List ℕ) (s : State) → Good W s → ((j : ℕ) → j < length rs → (at rs j ≡ 0) ⊎ (W .Obj (at rs j) × W .Root (at rs j)))
-    → RootsDone W s rs (forwardRoots (W .plan) rs s) (SafeRoots (W .plan) rs s)
+-- each root cell is 0 or an object
+abbrev pub Cells : World → List ℕ → Type 0
+Cells W rs = (j : ℕ) → j < length rs → (at rs j ≡ 0) ⊎ (W .Obj (at rs j) × W .Root (at rs j))
+
+pub rooted : (W : World) (s : State) (v : ℕ) → (v ≡ 0) ⊎ (W .Obj v × W .Root v) → (v ≡ 0) ⊎ (W .Obj v × Reach W s v)
+rooted W s v (inl e) = inl e
+rooted W s v (inr (a, b)) = inr (a, root b)
+
+pub forward-roots : (W : World) (rs : List ℕ) (s : State) → Good W s → Cells W rs → RootsDone W s rs (forwardRoots (W .plan) rs s) (SafeRoots (W .plan) rs s)
 unfolding forwardRoots SafeRoots
 forward-roots W [] s G ok = record { safe = tt; good = G; grow = grow-refl W s; cells = refl; becomes = λ j h. absurd (omega arith) }
 forward-roots W (v ∷ rs) s G ok =
     let f : Forwarded = forward (W .plan) v s in
-    let F : Went W s v f (SafeForward (W .plan) v s) = forward-went W s G v (rooted (ok 0 (omega arith))) in
+    let F : Went W s v f (SafeForward (W .plan) v s) = forward-went W s G v (rooted W s v (ok 0 (omega arith))) in
     let k : RootsDone W (f .state) rs (forwardRoots (W .plan) rs (f .state)) (SafeRoots (W .plan) rs (f .state)) =
     forward-roots W rs (f .state) (F .good) (λ j h. ok (suc j) (omega arith)) in
     record {
@@ -140,7 +152,3 @@ forward-roots W (v ∷ rs) s G ok =
       cells = ap suc (k .cells);
       becomes = elim [ zero ↦ λ h. becomes-map (k .grow .kept) _ _ (F .becomes) | suc j ↦ λ h. k .becomes j (omega arith) ];
     }
-  where
-    rooted : (v ≡ 0) ⊎ (W .Obj v × W .Root v) → (v ≡ 0) ⊎ (W .Obj v × Reach W s v)
-    rooted (inl e) = inl e
-    rooted (inr (a, b)) = inr (a, root b)

@@ -11,7 +11,7 @@ use Rattle.rules.specs.Demands.{Becomes}
 use Rattle.laws.specs.Safe.{SafeForward, SafeReferences}
 use Rattle.theory.specs.World.{Swept, refsAt, World, ref, live-map, Reach, Kept, Inv}
 use Rattle.theory.specs.Places.{kept-obj, kept-label}
-use Rattle.theory.specs.Forward.{forward-self}
+use Rattle.theory.specs.Forward.{idle, forward-self}
 use Rattle.theory.specs.Packs.{Packs}
 use Rattle.theory.specs.Causes.{StaysBy, Cause, Causes}
 use Rattle.theory.specs.ForwardSafe.{forward-safe}
@@ -25,7 +25,7 @@ module _ (W : World) (t : State) (I : Inv W t) (x y i u : ℕ) (S : Slot W t x y
   abbrev t′ : State
   t′ = stored t (y + i) u
 
-  store-grow : Grow W t t′
+  pub store-grow : Grow W t t′
   store-grow = record {
     region = λ w r. record { label = r .label; below = r .below };
     kept = kept-up W t I x y i u S;
@@ -59,7 +59,7 @@ module _ (W : World) (s : State) (G : Good W s) (x y i : ℕ) (K : Kept W s x y)
   abbrev f : Forwarded
   f = forward (W .plan) (at (s .heap) (y + i)) s
 
-  reference-went : Went W s v f (SafeForward (W .plan) (at (s .heap) (y + i)) s)
+  pub reference-went : Went W s v f (SafeForward (W .plan) (at (s .heap) (y + i)) s)
   reference-went = go (G .inv .references x y i K low high)
     where
       as-before : at (s .heap) (y + i) ≡ v → Went W s v f (SafeForward (W .plan) (at (s .heap) (y + i)) s)
@@ -78,15 +78,16 @@ module _ (W : World) (s : State) (G : Good W s) (x y i : ℕ) (K : Kept W s x y)
             good = G;
             grow = grow-refl W s;
             becomes = inr k;
+            how = idle _ (inr k) refl;
           })
 
   abbrev t : State
   t = f .state
 
-  slot : Slot W t x y i (f .value)
+  pub slot : Slot W t x y i (f .value)
   slot = record { kept = reference-went .grow .kept x y K; low = low; high = high; becomes = reference-went .becomes }
 
-  reference-good : Good W (sweepReference (W .plan) (y + i) s)
+  pub reference-good : Good W (sweepReference (W .plan) (y + i) s)
   unfolding sweepReference
   reference-good = record {
     inv = store-inv W t (reference-went .good .inv) x y i (f .value) slot;
@@ -97,7 +98,7 @@ module _ (W : World) (s : State) (G : Good W s) (x y i : ℕ) (K : Kept W s x y)
     filled = reference-went .good .filled;
   }
 
-  reference-grow : Grow W s (sweepReference (W .plan) (y + i) s)
+  pub reference-grow : Grow W s (sweepReference (W .plan) (y + i) s)
   unfolding sweepReference
   reference-grow = grow-trans W s t _ (reference-went .grow) (store-grow W t (reference-went .good .inv) x y i (f .value) slot)
 

@@ -1,7 +1,7 @@
 -- What a later state keeps of an earlier one; and a page taken keeps the invariant, where no page is kept so far.
-use mathlib.Core.Path.{_≡_, refl, sym, ap, _∙_, subst}
+use mathlib.Core.Path.{_≡_, refl, sym, ap, _∙_}
 use mathlib.Core.Logic.{_≢_, _⊎_, inl, inr}
-use mathlib.Core.List.{List, List·Memᴰ, List·Memᴰ·not-nil}
+use mathlib.Core.List.{List, List·Memᴰ}
 use Prim.Native.Nat.{ℕ, _+_, _<_, zero-le}
 use native.Mathlib.Decide.{ℕ-discrete}
 use native.Mathlib.Omega.{arith}
@@ -9,10 +9,10 @@ use lib.ListN.{length, set, length-set}
 use lib.Seq.{getD-set-same, getD-set-other}
 use Rattle.rules.specs.Ranges.{at}
 use Rattle.rules.specs.Pages.{lowestFree}
-use Rattle.rules.specs.Collection.{Move, State, onPages, takePage, put, keptPages}
+use Rattle.rules.specs.Collection.{Move, State, onPages, takePage, put}
 use Rattle.rules.specs.Demands.{Becomes}
 use Rattle.laws.specs.FreePages.{Lowest}
-use Rattle.theory.specs.KeptPages.{kept-none}
+use Rattle.theory.specs.KeptPages.{not-kept}
 use Rattle.theory.specs.World.{becomes-map, pageOf, sizeAt, World, Stays, Kept, stayed, went, Region, Moved, moved-on, LabelledOrKept, Inv}
 use Rattle.theory.specs.Places.{obj-used}
 use Rattle.theory.specs.Put.{Ready, put-region, put-keeps, mem-up, stays-up}
@@ -65,15 +65,12 @@ module _ (W : World) (s : State) (I : Inv W s) (unkept : s .pages .kept ≡ 0) (
   pub label-up : (k : ℕ) → at (s .pages .labels) k ≢ 0 → at ls k ≡ at (s .pages .labels) k
   label-up k h = getD-set-other (s .pages .labels) g k (W .plan .new) 0 (not-page k h)
 
-  not-kept : (k : ℕ) → List·Memᴰ k (keptPages (s .pages)) → ⊥
-  not-kept k h = List·Memᴰ·not-nil (subst (List·Memᴰ k) (kept-none (s .pages) unkept) h)
-
   used-same : (k : ℕ) → at (W .labels) k ≢ 0 → at (s .pages .labels) k ≡ at (W .labels) k
   used-same k h = go (I .used k h)
     where
       go : LabelledOrKept W s k → at (s .pages .labels) k ≡ at (W .labels) k
       go (inl e) = e
-      go (inr q) = absurd (not-kept k (q .listed))
+      go (inr q) = absurd (not-kept (s .pages) unkept k (q .listed))
 
   fresh : at (W .labels) g ≡ 0
   fresh = go (ℕ-discrete (at (W .labels) g) 0)
@@ -130,7 +127,7 @@ module _ (W : World) (s : State) (I : Inv W s) (unkept : s .pages .kept ≡ 0) (
     heapLength = I .heapLength;
     labelsLength = length-set (s .pages .labels) g (W .plan .new) ∙ I .labelsLength;
     used = λ k h. inl (used-label k h ∙ used-same k h);
-    kept = λ k h. absurd (List·Memᴰ·not-nil (subst (List·Memᴰ k) (kept-none (t .pages) unkept) h));
+    kept = λ k h. absurd (not-kept (t .pages) unkept k h);
     free = free′;
     copyFresh = fresh;
     copyLabel = λ q. getD-set-same (s .pages .labels) g (W .plan .new) 0 page-inside;

@@ -12,7 +12,7 @@ use lib.Seq.{getD-take, getD-drop, length-take-le}
 use Rattle.rules.specs.Ranges.{at}
 use Rattle.rules.specs.Pages.{otherLabel}
 use Rattle.rules.specs.Lent.{Lent}
-use Rattle.rules.specs.Sound.{Sound}
+use Rattle.rules.specs.Sound.{InUse, Sound}
 use Rattle.rules.specs.Collection.{State, planOf, unkeptPages, keptPages, collection}
 use Rattle.rules.specs.Collect.{neededFor}
 use Rattle.rules.specs.Demands.{FindsPages}
@@ -27,7 +27,7 @@ use Rattle.theory.specs.SoundHeap.{other≢0, other≢label, words-are}
 use Rattle.laws.specs.Valid.{label-pos}
 use Rattle.theory.specs.FirstState.{p as pagesOf, s as firstOf, H, world, labels-length, used-kind, free-stays, free-same-pages}
 use Rattle.theory.specs.Run.{W as worldOf, r as rootedOf, t as sweptOf, roots-done, all-done}
-use Rattle.theory.specs.After.{inv, new-in-use}
+use Rattle.theory.specs.After.{m′ as lentOf, inv, new-in-use}
 
 module _ (m : Lent) (roots hints : List ℕ) (A : Ready m roots) where
   abbrev S : Sound m
@@ -63,7 +63,7 @@ module _ (m : Lent) (roots hints : List ℕ) (A : Ready m roots) where
   unfolding unkeptPages
   unkept-length = length-take-le (length queue - s .pages .kept) queue (omega arith)
 
-  taken-length : length taken ≡ length queue - s .pages .kept - length before
+  pub taken-length : length taken ≡ length queue - s .pages .kept - length before
   taken-length = length-drop (length before) (unkeptPages (s .pages)) ∙ ap (λ (n : ℕ). n - length before) unkept-length
 
   place-unkept : (j : ℕ) → j < length taken → length before + j + s .pages .kept < length queue
@@ -117,6 +117,12 @@ module _ (m : Lent) (roots hints : List ℕ) (A : Ready m roots) where
       go (inl e) = e
       go (inr e) = absurd (used (used-kind m roots hints A g e))
 
+  -- it is in use after
+  pub taken-in-use : (g : ℕ) → List·Memᴰ g taken → InUse (lentOf m roots hints A) g
+  taken-in-use g mem =
+      let (j, lt, e) = mem-at taken g mem in
+      new-in-use m roots hints A g (ap (at (s .pages .labels)) (sym e ∙ place j lt) ∙ queue-new (length before + j) (place-inside j lt))
+
   taken-words : length taken ≤ neededFor m hints
   unfolding world planOf
   taken-words =
@@ -126,23 +132,18 @@ module _ (m : Lent) (roots hints : List ℕ) (A : Ready m roots) where
   pub finds : FindsPages m roots hints taken
   unfolding collection planOf
   finds = record {
-    free = λ g mem. let (j, lt, e) = mem-at taken g mem in free g j lt e;
+    free = λ g mem. let u = taken-in-use g mem in let (j, lt, e) = mem-at taken g mem in (u .low, u .high, ap (at (m .labels)) (sym e) ∙ was-free j lt);
     distinct = λ i j hi hj e.
         let z : length before + i ≡ length before + j =
         all-done m roots hints A .good .lined .queued .once (length before + i) (length before + j) (place-inside i hi) (place-inside j hj) (sym (place i hi) ∙ e ∙ place j hj) in
         omega arith;
     few = taken-words;
   }
-    where
-      free : (g j : ℕ) → j < length taken → at taken j ≡ g → (1 ≤ g) × (g < m .rec .pages) × (at (m .labels) g ≡ 0)
-      free g j lt e =
-          let u = new-in-use m roots hints A g (ap (at (s .pages .labels)) (sym e ∙ place j lt) ∙ queue-new (length before + j) (place-inside j lt)) in
-          (u .low, u .high, ap (at (m .labels)) (sym e) ∙ was-free j lt)
 
-  -- where a page is kept, each page that was free is taken
-  pub free-taken : 0 < s .pages .kept → (g : ℕ) → 1 ≤ g → g < m .rec .pages → at (m .labels) g ≡ 0 → List·Memᴰ g taken
+  -- a page that was free and has the new label is taken
+  pub new-taken : (g : ℕ) → at (m .labels) g ≡ 0 → at (s .pages .labels) g ≡ new → List·Memᴰ g taken
   unfolding world planOf
-  free-taken pos g low high e = then (inv m roots hints A .free g fresh)
+  new-taken g e z = queued (all-done m roots hints A .good .lined .queued .all g z)
     where
       fresh : at (W .labels) g ≡ 0
       fresh = free-stays m roots hints A g e
@@ -175,9 +176,14 @@ module _ (m : Lent) (roots hints : List ℕ) (A : Ready m roots) where
           here : at taken (j - length before) ≡ g
           here = place (j - length before) inside ∙ ap (at queue) (omega (arith, behind)) ∙ q
 
+  -- where a page is kept, that is each page that was free
+  pub free-taken : 0 < s .pages .kept → (g : ℕ) → 1 ≤ g → g < m .rec .pages → at (m .labels) g ≡ 0 → List·Memᴰ g taken
+  unfolding world planOf
+  free-taken pos g low high e = then (inv m roots hints A .free g (free-stays m roots hints A g e))
+    where
       then : (at (s .pages .labels) g ≡ 0) ⊎ (at (s .pages .labels) g ≡ new) → List·Memᴰ g taken
       then (inl z) = absurd (all-done m roots hints A .good .causes .full pos g low (omega (arith, W .high, labels-length m roots hints A)) z)
-      then (inr z) = queued (all-done m roots hints A .good .lined .queued .all g z)
+      then (inr z) = new-taken g e z
 
   -- where as many pages are free as the words may need, none is kept
   pub none-kept : neededFor m hints ≤ freePages (m .labels) 1 (m .rec .pages) → keptPages (s .pages) ≡ []
