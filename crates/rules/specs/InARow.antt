@@ -1,4 +1,6 @@
--- Q-7: two collections in a row.
+-- Q-7, two collections in a row: "after an accepted collection that kept no page for room, collect at once with the resulting roots and the same
+-- hints. If no hint names a page taken by the first, and the second keeps none either, then the same objects remain, up to the pairing, and
+-- pages taken, objects copied and words copied are the same numbers."
 use mathlib.Core.Path.{_≡_}
 use mathlib.Core.List.{List, List·Memᴰ}
 use Prim.Native.Nat.{ℕ}
@@ -46,11 +48,12 @@ pub record SameNumbers (a b : CollectOutcome) : Type 0 where
   pub objects : b .objects ≡ a .objects
   pub words : b .words ≡ a .words
 
+-- all of it, and that the second is accepted
 pub record Repeats (a : CollectOutcome) (hints : List ℕ) (b : CollectOutcome) : Type 1 where
   pub accepted : b .refusal ≡ 0
   pub objects : (Pairs : ℕ → ℕ → Type 0) × SameObjects a hints b Pairs
   pub numbers : SameNumbers a b
 
--- Q-7, of any memory, root cells and hints
+-- the whole sentence, of any memory, root cells and hints: that the heap is sound follows from the first's acceptance
 abbrev pub TwoInARow : Type 1
 TwoInARow = (m : Lent) (roots hints : List ℕ) (a b : CollectOutcome) → InARow m roots hints a b → Repeats a hints b
