@@ -197,7 +197,7 @@ still-old : (k : Plan) (b : Pages) → Unhinted k b → (p : Pages) (g h : ℕ) 
 still-old k b U p g h e z = (other, sym (getD-set-other (p .labels) g h (k .new) 0 other) ∙ z)
   where
     other : h ≢ g
-    other q = U .new≢old (sym (getD-set-same (p .labels) g (k .new) 0 (in-range (p .labels) g (λ y. U .old≢0 (sym e ∙ y)))) ∙ ap (at (set (p .labels) g (k .new))) (sym q) ∙ z)
+    other q = U .new≢old (sym (getD-set-same (p .labels) g (k .new) 0 (old-inside k b U [] p g e)) ∙ ap (at (set (p .labels) g (k .new))) (sym q) ∙ z)
 
 module _ (k l : Plan) (b d : Pages) (U : Unhinted k b) (U′ : Unhinted l d) where
   -- then the same pages join, in the same order
