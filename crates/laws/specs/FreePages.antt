@@ -2,7 +2,7 @@
 -- one less.
 use mathlib.Core.Path.{_≡_, refl, sym, ap, _∙_}
 use mathlib.Core.Logic.{_≢_, _⊎_, inl, inr}
-use mathlib.Core.Bool.{Bool, true, false, cond, not}
+use mathlib.Core.Bool.{Bool, true, false, cond, not, true≢false}
 use mathlib.Core.List.{List, [], _∷_}
 use Prim.Native.Nat.{ℕ, zero, suc, _+_, _-_, _≤_, _<_}
 use native.Mathlib.Decide.{ℕ-discrete}
@@ -99,14 +99,18 @@ first-none f e (suc n) lo h = go (f lo) (first-none f e n (suc lo)) h
     go true ih p = absurd (omega arith)
     go false ih p = ih (omega arith)
 
-count-some : (f : ℕ → Bool) (g n lo : ℕ) → lo ≤ g → g < lo + n → f g ≡ true → 0 < count f (from lo n)
-unfolding from count
-count-some f g zero lo a b e = absurd (omega arith)
-count-some f g (suc n) lo a b e = go (ℕ-discrete lo g) (count-some f g n (suc lo))
+-- what stands before the first that passes does not
+first-before : (f : ℕ → Bool) (e g n lo : ℕ) → lo ≤ g → g < lo + n → g < first f (from lo n) e → f g ≡ false
+unfolding from first
+first-before f e g zero lo a b h = absurd (omega arith)
+first-before f e g (suc n) lo a b h = go (f lo) refl (ℕ-discrete lo g) (first-before f e g n (suc lo)) h
   where
-    go : Dec (lo ≡ g) → (suc lo ≤ g → g < suc lo + n → f g ≡ true → 0 < count f (from (suc lo) n)) → 0 < cond (f lo) 1 0 + count f (from (suc lo) n)
-    go (yes q) ih = rw (ap f q ∙ e) (omega arith)
-    go (no q) ih = omega (arith, ih (omega arith) (omega arith) e)
+    go : (v : Bool) → f lo ≡ v → Dec (lo ≡ g)
+        → (suc lo ≤ g → g < suc lo + n → g < first f (from (suc lo) n) e → f g ≡ false)
+        → g < cond v lo (first f (from (suc lo) n) e) → f g ≡ false
+    go true q d ih h = absurd (omega arith)
+    go false q (yes z) ih h = ap f (sym z) ∙ q
+    go false q (no z) ih h = ih (omega arith) (omega arith) h
 
 -- ---- free pages of a block
 
@@ -137,7 +141,7 @@ lowest labels lo hi h =
     let (low, high, free) = first-from (isFree labels) hi (hi - lo) lo h in
     record { low = low; high = omega arith; free = free-says labels _ free }
 
--- a page that is found is free; and where none is found, none is
+-- a page that is found is free
 pub lowest-found : (labels : List ℕ) (lo hi : ℕ) → lowestFree labels lo hi < hi → Lowest labels lo hi
 unfolding freePages lowestFree block
 lowest-found labels lo hi h = go (ℕ-discrete (freePages labels lo hi) 0)
@@ -146,11 +150,14 @@ lowest-found labels lo hi h = go (ℕ-discrete (freePages labels lo hi) 0)
     go (yes e) = absurd (omega (arith, first-none (isFree labels) hi (hi - lo) lo e))
     go (no n) = lowest labels lo hi (omega arith)
 
+-- below the one that is found none is free; and where none is found, none is
+pub none-below : (labels : List ℕ) (lo hi g : ℕ) → lo ≤ g → g < hi → g < lowestFree labels lo hi → at labels g ≢ 0
+unfolding lowestFree block
+none-below labels lo hi g a b h e =
+    true≢false (sym (free-is labels g e) ∙ first-before (isFree labels) hi g (hi - lo) lo a (omega arith) h)
+
 pub none-free : (labels : List ℕ) (lo hi : ℕ) → hi ≤ lowestFree labels lo hi → (g : ℕ) → lo ≤ g → g < hi → at labels g ≢ 0
-unfolding freePages block
-none-free labels lo hi h g a b e =
-    let L : Lowest labels lo hi = lowest labels lo hi (count-some (isFree labels) g (hi - lo) lo a (omega arith) (free-is labels g e)) in
-    omega (arith, L .high)
+none-free labels lo hi h g a b = none-below labels lo hi g a b (omega arith)
 
 -- pages in use and free pages are all
 pub used-and-free : (labels : List ℕ) (lo hi : ℕ) → pagesUsed labels lo hi + freePages labels lo hi ≡ hi - lo

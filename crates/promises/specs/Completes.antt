@@ -14,15 +14,12 @@ use Rattle.rules.specs.Walk.{isReference}
 use Rattle.rules.specs.Sound.{InUse, Sound, isSound}
 use Rattle.rules.specs.Collection.{plainly, collection}
 use Rattle.rules.specs.Collect.{CollectOutcome, refusalOfCollect, collect}
-use Rattle.rules.specs.Demands.{Hinted, Reached, staying, byRoot, byReference, OnHintedOrKept, HoldsCopy, Faithful, GoodRoots}
+use Rattle.rules.specs.Demands.{Hinted, ReachedBy, staying, byRoot, byReference, OnHintedOrKept, HoldsCopy, Faithful, GoodRoots}
 use Rattle.laws.specs.Collect.{ready-is, collect-refusal}
 use Rattle.kept.specs.Accepted.{collect-says}
+use Rattle.theory.specs.Sums.{member-length}
 use Rattle.theory.specs.SoundHeap.{object-nonzero}
 use Rattle.theory.specs.Collections.{collect-faithful, collect-ready}
-
-member-length : (l : List ℕ) (x : ℕ) → List·Memᴰ x l → 0 < length l
-member-length [] x k = absurd (List·Memᴰ·not-nil k)
-member-length (y ∷ l) x k = omega arith
 
 module _ (m : Lent) (roots hints : List ℕ) where
   -- "every collection of a sound heap with good roots completes"
@@ -67,11 +64,12 @@ module _ (m : Lent) (roots : List ℕ) (let-go : (r : ℕ) → List·Memᴰ r ro
   unhinted g h = List·Memᴰ·not-nil (h .named)
 
   -- so nothing is reached but from what stays on kept pages
-  unreached : {kept : List ℕ} {Pairs : ℕ → ℕ → Type 0} → ((g : ℕ) → List·Memᴰ g kept → ⊥) → {x : ℕ} → Reached m roots (OnHintedOrKept m [] kept Pairs) x → ⊥
+  unreached : {kept : List ℕ} {Pairs : ℕ → ℕ → Type 0} {Through : ℕ → Type 0} → ((g : ℕ) → List·Memᴰ g kept → ⊥)
+      → {x : ℕ} → ReachedBy m roots (OnHintedOrKept m [] kept Pairs) Through x → ⊥
   unreached none (staying ob (inl h)) = unhinted _ h
   unreached none (staying ob (inr q)) = none _ (q .page)
   unreached none (byRoot {x = x} ob k) = object-nonzero m S x ob (let-go x k)
-  unreached none (byReference z i r h e ob) = unreached none r
+  unreached none (byReference z i r t h e ob) = unreached none r
 
   pub comes-free : (g : ℕ) → InUse (collect m roots [] .lent) g → ⊥
   comes-free g u = let (Pairs, F) = collect-faithful m roots [] (sym (collect-refusal m roots []) ∙ accepts) in free Pairs F
@@ -81,7 +79,7 @@ module _ (m : Lent) (roots : List ℕ) (let-go : (r : ℕ) → List·Memᴰ r ro
         where
           -- the first kept page would hold something that is reached without it
           none : (h : ℕ) → List·Memᴰ h (collection plainly m roots [] .kept) → ⊥
-          none h k = unreached (λ j q. List·Memᴰ·not-nil q) (F .keeps .holds 0 (member-length (collection plainly m roots [] .kept) h k) .2)
+          none h k = unreached (λ j q. List·Memᴰ·not-nil q) (F .keeps .holds 0 (member-length k) .1 .reached)
 
           go : Hinted m [] g ⊎ (HoldsCopy m Pairs g ⊎ List·Memᴰ g (collection plainly m roots [] .kept)) → ⊥
           go (inl h) = unhinted g h

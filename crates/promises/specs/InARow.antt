@@ -6,10 +6,10 @@ use Prim.Native.Nat.{ℕ}
 use Rattle.rules.specs.Lent.{Lent}
 use Rattle.rules.specs.Collection.{plainly, Collection, collection}
 use Rattle.rules.specs.Collect.{CollectOutcome, acceptedCollect, collect}
-use Rattle.rules.specs.Demands.{Faithful}
-use Rattle.rules.specs.InARow.{Took, InARow, Repeats, TwoInARow}
+use Rattle.rules.specs.Demands.{Faithful, Took}
+use Rattle.rules.specs.InARow.{InARow, Repeats, TwoInARow}
 use Rattle.laws.specs.Collect.{Ready, ready-says, ready-is, collect-refusal, collect-accepts}
-use Rattle.theory.specs.Collections.{collect-faithful, collect-ready, collect-took, Again, collection-again}
+use Rattle.theory.specs.Collections.{collect-faithful, collect-ready, collect-finds, Again, collection-again}
 use Rattle.promises.specs.Unkept.{as-before, unfilled}
 
 module _ (m : Lent) (roots hints : List ℕ) (A : Ready m roots) where
@@ -47,7 +47,7 @@ module _ (m : Lent) (roots hints : List ℕ) (A : Ready m roots) where
   })
     where
       took : (g : ℕ) → List·Memᴰ g (c .taken) → Took m (acceptedCollect c) g
-      took g t = subst (λ (o : CollectOutcome). Took m o g) first-is (collect-took m roots hints (ready-is m roots A) g t)
+      took g t = subst (λ (o : CollectOutcome). Took m o g) first-is (collect-finds m roots hints (ready-is m roots A) .took g t)
 
       none : acceptedCollect d .kept ≡ 0
       none = sym (ap (λ (o : CollectOutcome). o .kept) is) ∙ R .keptAgain

@@ -2,6 +2,7 @@ pub mod Demand1
 pub mod Completes
 pub mod Demand3
 pub mod Unkept
+pub mod Listed
 pub mod Rejects
 pub mod InARow
 pub mod Hinted

@@ -53,8 +53,7 @@ collected-twice m roots hints x y c d e none names none′ =
 
 -- a collection that answered refusal 0: it found its pages, and what it left is faithful to what was there
 pub record Kept (m : Lent) (roots hints : List ℕ) (x : LeftCollected) : Type 1 where
-  pub finds : FindsPages m roots hints (collection plainly m roots hints .taken)
-  pub counted : x .answer .taken ≡ length (collection plainly m roots hints .taken)
+  pub finds : FindsPages m hints (outcomeLeft x) (collection plainly m roots hints .taken)
   pub pairs : (Pairs : ℕ → ℕ → Type 0) × Faithful m roots hints (outcomeLeft x) (collection plainly m roots hints) Pairs
 
 pub collected-kept : (m : Lent) (roots hints : List ℕ) (x : LeftCollected) → Collects m roots hints x → x .answer .refusal ≡ 0 → Kept m roots hints x
@@ -63,7 +62,6 @@ collected-kept m roots hints x c e =
     let z = sym (collect-refusal m roots hints) ∙ sym (ap (λ (o : CollectOutcome). o .refusal) c) ∙ e in
     let (Pairs, F) = collect-faithful m roots hints z in
     record {
-      finds = collect-finds m roots hints z;
-      counted = ap (λ (o : CollectOutcome). o .taken) (c ∙ collect-accepts m roots hints z);
+      finds = subst (λ (o : CollectOutcome). FindsPages m hints o (collection plainly m roots hints .taken)) (sym c) (collect-finds m roots hints z);
       pairs = (Pairs, subst (λ (o : CollectOutcome). Faithful m roots hints o (collection plainly m roots hints) Pairs) (sym c) F);
     }

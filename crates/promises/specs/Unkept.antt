@@ -8,20 +8,22 @@ use lib.ListN.{length}
 use Rattle.rules.specs.Lent.{Lent}
 use Rattle.rules.specs.Collection.{Collection}
 use Rattle.rules.specs.Collect.{CollectOutcome}
-use Rattle.rules.specs.Demands.{Hinted, OnHinted, Reached, staying, byRoot, byReference, Paired, HoldsCopy, OnHintedOrKept, Faithful, FaithfulUnkept}
+use Rattle.rules.specs.Demands.{Hinted, OnHinted, ReachedBy, staying, byRoot, byReference, Paired, HoldsCopy, OnHintedOrKept, Faithful, FaithfulUnkept}
 
--- what is reached stays so where more may stay
-pub reached-map : {m : Lent} {roots : List ℕ} {Stay Stay′ : ℕ → Type 0} → ((x : ℕ) → Stay x → Stay′ x) → {x : ℕ} → Reached m roots Stay x → Reached m roots Stay′ x
-reached-map f (staying {x = x} ob q) = staying ob (f x q)
-reached-map f (byRoot ob k) = byRoot ob k
-reached-map f (byReference z i r h e ob) = byReference z i (reached-map f r) h e ob
+-- what is reached stays so where more may stay, and more is passed through
+pub reached-map : {m : Lent} {roots : List ℕ} {Stay Stay′ Through Through′ : ℕ → Type 0}
+    → ((x : ℕ) → Stay x → Stay′ x) → ((x : ℕ) → Through x → Through′ x)
+    → {x : ℕ} → ReachedBy m roots Stay Through x → ReachedBy m roots Stay′ Through′ x
+reached-map f g (staying {x = x} ob q) = staying ob (f x q)
+reached-map f g (byRoot ob k) = byRoot ob k
+reached-map f g (byReference z i r t h e ob) = byReference z i (reached-map f g r) (g z t) h e ob
 
 -- the pairing goes by what stays, and no more
 pub paired-map : {m : Lent} {roots : List ℕ} {Stay Stay′ : ℕ → Type 0} {o : CollectOutcome} {Pairs : ℕ → ℕ → Type 0}
     → ((x : ℕ) → Stay x → Stay′ x) → ((x : ℕ) → Stay′ x → Stay x) → Paired m roots Stay o Pairs → Paired m roots Stay′ o Pairs
 paired-map f g D = record {
-  reached = λ x r. D .reached x (reached-map g r);
-  only = λ x y p. reached-map f (D .only x y p);
+  reached = λ x r. D .reached x (reached-map g (λ z t. t) r);
+  only = λ x y p. reached-map f (λ z t. t) (D .only x y p);
   object = D .object;
   once = D .once;
   back = D .back;
@@ -85,7 +87,7 @@ module _ (m : Lent) (roots hints : List ℕ) (o : CollectOutcome) (c : Collectio
       inUse = λ g k. absurd (empty g k);
       all = λ x ob k. absurd (empty _ k);
       holds = λ i h. absurd (let n : length (c .kept) ≡ 0 = kept-length in omega arith);
-      full = λ g h k. absurd (empty h k);
+      room = λ h. absurd (let n : length (c .kept) ≡ 0 = kept-length in omega arith);
       once = λ i j h. absurd (let n : length (c .kept) ≡ 0 = kept-length in omega arith);
       count = kept0 ∙ sym kept-length;
     };

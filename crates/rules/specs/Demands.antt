@@ -4,12 +4,13 @@
 use mathlib.Core.Path.{_≡_}
 use mathlib.Core.Logic.{_≢_, _⊎_}
 use mathlib.Core.List.{List, [], _∷_, List·Memᴰ}
-use Prim.Native.Nat.{ℕ, _+_, _/_, _≤_, _<_}
+use Prim.Native.Nat.{ℕ, _+_, _*_, _/_, _≤_, _<_}
 use lib.ListN.{length, take}
 use Rattle.rules.specs.Ranges.{at}
 use Rattle.rules.specs.Header.{sizeOf}
 use Rattle.rules.specs.Pages.{pagesNamed}
 use Rattle.rules.specs.Lent.{Lent}
+use Rattle.rules.specs.Walk.{stop}
 use Rattle.rules.specs.Sound.{InUse, IsObject, Sound, refs, payload}
 use Rattle.rules.specs.Calls.{Outcome, start, allocate, lookUp, load, store}
 use Rattle.rules.specs.Collection.{plainly, Collection, collection}
@@ -95,12 +96,18 @@ pub record Hinted (m : Lent) (hints : List ℕ) (g : ℕ) : Type 0 where
 abbrev pub OnHinted : Lent → List ℕ → ℕ → Type 0
 OnHinted m hints x = Hinted m hints (x / m .rec .page)
 
--- "those that were on hinted pages or could be reached from them or the root cells": `Stay` says which objects are like those on hinted
--- pages, in that they stay where they are
-pub data Reached (m : Lent) (roots : List ℕ) (Stay : ℕ → Type 0) : ℕ → Type 0 where
-  staying : {x : ℕ} → IsObject m x → Stay x → Reached m roots Stay x
-  byRoot : {x : ℕ} → IsObject m x → List·Memᴰ x roots → Reached m roots Stay x
-  byReference : {x : ℕ} (z i : ℕ) → Reached m roots Stay z → i < refs m z → x ≡ payload m z i → IsObject m x → Reached m roots Stay x
+-- What is reached: objects that stay, as `Stay` has it; objects in root cells; and what an object refers to that is
+-- reached itself, if `Through` admits that object.
+pub data ReachedBy (m : Lent) (roots : List ℕ) (Stay Through : ℕ → Type 0) : ℕ → Type 0 where
+  staying : {x : ℕ} → IsObject m x → Stay x → ReachedBy m roots Stay Through x
+  byRoot : {x : ℕ} → IsObject m x → List·Memᴰ x roots → ReachedBy m roots Stay Through x
+  byReference : {x : ℕ} (z i : ℕ) → ReachedBy m roots Stay Through z → Through z → i < refs m z → x ≡ payload m z i
+      → IsObject m x → ReachedBy m roots Stay Through x
+
+-- "those that were on hinted pages or could be reached from them or the root cells", by references of any objects.
+-- `Stay` says which objects are like those on hinted pages, in that they stay where they are.
+abbrev pub Reached : Lent → List ℕ → (ℕ → Type 0) → ℕ → Type 0
+Reached m roots Stay = ReachedBy m roots Stay (λ z. Unit {0})
 
 -- u stands now for v: nil for nil, else what v is paired with
 abbrev pub Becomes : (ℕ → ℕ → Type 0) → ℕ → ℕ → Type 0
@@ -155,6 +162,46 @@ OnHintedOrKept m hints kept Pairs x = OnHinted m hints x ⊎ StayedOn m kept Pai
 abbrev pub Once : List ℕ → Type 0
 Once l = (i j : ℕ) → i < length l → j < length l → at l i ≡ at l j → i ≡ j
 
+-- the object at z is elsewhere now
+abbrev pub Moved : (ℕ → ℕ → Type 0) → ℕ → Type 0
+Moved Pairs z = (y : ℕ) × Pairs z y × (y ≢ z)
+
+-- Object x is reached where no pages are kept but those of the list: by references of objects on hinted pages, of
+-- objects that stayed on pages of the list, and of objects that moved.
+abbrev pub ReachedKeeping : Lent → List ℕ → List ℕ → List ℕ → (ℕ → ℕ → Type 0) → ℕ → Type 0
+ReachedKeeping m roots hints kept Pairs =
+    ReachedBy m roots (OnHintedOrKept m hints kept Pairs) (λ z. OnHintedOrKept m hints kept Pairs z ⊎ Moved Pairs z)
+
+-- Page i of those kept is kept for the object at x, which stands on it: it stayed, and it is reached where the pages
+-- before i alone are kept.
+pub record KeptFor (m : Lent) (roots hints kept : List ℕ) (Pairs : ℕ → ℕ → Type 0) (i x : ℕ) : Type 0 where
+  pub page : x / m .rec .page ≡ at kept i
+  pub stayed : Pairs x x
+  pub reached : ReachedKeeping m roots hints (take i kept) Pairs x
+
+-- Page g is the highest-numbered of those that were free. Copies take the lowest one first: once all are taken, g is
+-- the copy page.
+pub record LastFree (m : Lent) (g : ℕ) : Type 0 where
+  pub low : 1 ≤ g
+  pub high : g < m .rec .pages
+  pub free : at (m .labels) g ≡ 0
+  pub above : (h : ℕ) → g < h → h < m .rec .pages → at (m .labels) h ≢ 0
+
+-- n words do not fit what the collection left of page g, from the walk's stop to the page's end
+abbrev pub Overfills : Lent → ℕ → ℕ → Type 0
+Overfills m g n = g * m .rec .page + m .rec .page < stop m g + n
+
+-- A page is kept: there was no room to copy the object for which the first one is, and nothing was copied from then on.
+pub record NoRoom (m : Lent) (roots hints : List ℕ) (o : CollectOutcome) (kept : List ℕ) (Pairs : ℕ → ℕ → Type 0)
+    : Type 0 where
+  -- it did not fit the copy page
+  pub tight : (x : ℕ) × KeptFor m roots hints kept Pairs 0 x
+      × ((g : ℕ) → LastFree m g → Overfills (o .lent) g (sizeOf (at (m .heap) x)))
+  -- and no page was free: each that was free before the collection holds a copy
+  pub full : (g : ℕ) → 1 ≤ g → g < m .rec .pages → at (m .labels) g ≡ 0 → HoldsCopy m Pairs g
+  -- what moved is reached where no page is kept
+  pub moved : (x : ℕ) → Moved Pairs x → ReachedKeeping m roots hints [] Pairs x
+
 -- the pages c .kept, in order of joining the queue
 pub record Keeps (m : Lent) (roots hints : List ℕ) (o : CollectOutcome) (c : Collection) (Pairs : ℕ → ℕ → Type 0) : Type 0 where
   -- each was in use, no hint named it, and it is in use
@@ -163,10 +210,10 @@ pub record Keeps (m : Lent) (roots hints : List ℕ) (o : CollectOutcome) (c : C
   pub inUse : (g : ℕ) → List·Memᴰ g (c .kept) → InUse (o .lent) g
   -- "its uncopied objects all stay": each object on it stays or leaves a filler
   pub all : (x : ℕ) → IsObject m x → List·Memᴰ (x / m .rec .page) (c .kept) → Pairs x x ⊎ List·Memᴰ x (c .fillers)
-  -- it holds an object that is reached without that page and those kept after it
-  pub holds : (i : ℕ) → i < length (c .kept) → (x : ℕ) × (x / m .rec .page ≡ at (c .kept) i) × Reached m roots (OnHintedOrKept m hints (take i (c .kept)) Pairs) x
-  -- pages are kept only when no page is free: each that was free is taken
-  pub full : (g h : ℕ) → List·Memᴰ h (c .kept) → 1 ≤ g → g < m .rec .pages → at (m .labels) g ≡ 0 → List·Memᴰ g (c .taken)
+  -- each is kept for an object on it,
+  pub holds : (i : ℕ) → i < length (c .kept) → (x : ℕ) × KeptFor m roots hints (c .kept) Pairs i x
+  -- and only where there is no room for a copy
+  pub room : 0 < length (c .kept) → NoRoom m roots hints o (c .kept) Pairs
   -- "The returned counts gain pages kept"
   pub once : Once (c .kept)
   pub count : o .kept ≡ length (c .kept)
@@ -174,7 +221,7 @@ pub record Keeps (m : Lent) (roots hints : List ℕ) (o : CollectOutcome) (c : C
 -- the places c .fillers
 pub record Fills (m : Lent) (o : CollectOutcome) (c : Collection) (Pairs : ℕ → ℕ → Type 0) : Type 0 where
   -- they are those of the objects "already copied out of a kept page"
-  pub left : (y : ℕ) → List·Memᴰ y (c .fillers) → IsObject m y × List·Memᴰ (y / m .rec .page) (c .kept) × ((z : ℕ) × Pairs y z × (z ≢ y))
+  pub left : (y : ℕ) → List·Memᴰ y (c .fillers) → IsObject m y × List·Memᴰ (y / m .rec .page) (c .kept) × Moved Pairs y
   pub all : (y z : ℕ) → List·Memᴰ (y / m .rec .page) (c .kept) → Pairs y z → z ≢ y → List·Memᴰ y (c .fillers)
   -- "its old place becomes a filler of the same length, no references, zeros": an object that no object before is paired with
   pub object : (y : ℕ) → List·Memᴰ y (c .fillers) → IsObject (o .lent) y
@@ -199,11 +246,18 @@ pub record Faithful (m : Lent) (roots hints : List ℕ) (o : CollectOutcome) (c 
   pub keeps : Keeps m roots hints o c Pairs
   pub fills : Fills m o c Pairs
 
--- the pages that a collection takes, in order, were free, in 1 to T - 1, and each is taken once. Q-3: there are never more than
--- the figure by words
-pub record FindsPages (m : Lent) (roots hints : List ℕ) (taken : List ℕ) : Type 0 where
-  pub free : (g : ℕ) → List·Memᴰ g taken → (1 ≤ g) × (g < m .rec .pages) × (at (m .labels) g ≡ 0)
+-- page g is taken by a collection: free before it, in use after
+pub record Took (m : Lent) (o : CollectOutcome) (g : ℕ) : Type 0 where
+  pub free : at (m .labels) g ≡ 0
+  pub inUse : InUse (o .lent) g
+
+-- The list `taken`, in order, has each page that is taken, and no other, once; the call returns their number. Q-3:
+-- there are never more than the figure by words.
+pub record FindsPages (m : Lent) (hints : List ℕ) (o : CollectOutcome) (taken : List ℕ) : Type 0 where
+  pub took : (g : ℕ) → List·Memᴰ g taken → Took m o g
+  pub all : (g : ℕ) → Took m o g → List·Memᴰ g taken
   pub distinct : Once taken
+  pub count : o .taken ≡ length taken
   pub few : length taken ≤ neededFor m hints
 
 -- "good roots"
@@ -217,6 +271,6 @@ pub record Demand3 : Type 1 where
   -- Q-6: "the claim about free pages becomes that every collection of a sound heap with good roots completes"
   pub completes : (m : Lent) (roots hints : List ℕ) → FromStart m → GoodRoots m roots → collect m roots hints .refusal ≡ 0
   pub finds : (m : Lent) (roots hints : List ℕ) → FromStart m → collect m roots hints .refusal ≡ 0
-      → FindsPages m roots hints (collection plainly m roots hints .taken)
+      → FindsPages m hints (collect m roots hints) (collection plainly m roots hints .taken)
   pub faithful : (m : Lent) (roots hints : List ℕ) → FromStart m → collect m roots hints .refusal ≡ 0
       → (Pairs : ℕ → ℕ → Type 0) × Faithful m roots hints (collect m roots hints) (collection plainly m roots hints) Pairs

@@ -4,17 +4,11 @@
 use mathlib.Core.Path.{_≡_}
 use mathlib.Core.List.{List, List·Memᴰ}
 use Prim.Native.Nat.{ℕ}
-use Rattle.rules.specs.Ranges.{at}
 use Rattle.rules.specs.Pages.{pagesNamed}
 use Rattle.rules.specs.Lent.{Lent}
-use Rattle.rules.specs.Sound.{InUse, IsObject}
+use Rattle.rules.specs.Sound.{IsObject}
 use Rattle.rules.specs.Collect.{CollectOutcome, collect}
-use Rattle.rules.specs.Demands.{FaithfulUnkept}
-
--- page g was "taken by the first": free before it, in use after
-pub record Took (m : Lent) (a : CollectOutcome) (g : ℕ) : Type 0 where
-  pub free : at (m .labels) g ≡ 0
-  pub inUse : InUse (a .lent) g
+use Rattle.rules.specs.Demands.{Took, FaithfulUnkept}
 
 -- "no hint names a page taken by the first", as its own page or, by Q-1, as that of the word before
 abbrev pub NamesNoneTaken : Lent → List ℕ → CollectOutcome → Type 0

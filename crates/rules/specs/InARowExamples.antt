@@ -14,7 +14,8 @@ use Rattle.rules.specs.Walk.{walk, behind, starts, stop, isInUse, isStar
 use Rattle.rules.specs.Sound.{isBlank, refsGood, isUsedSound, isPageSound, isFillSound, isSound}
 use Rattle.rules.specs.Collection.{hintPage, hintPages, takePage, withRoom, top, put, copyObject, canCopy, keepPage, keepObject, forward, forwardRoots, sweepReference, sweepReferences, isLeft, sizeAtCopy, sweepPage, sweepQueue, freedLabels, freedHeap, filler, fillPlace, fillPage, fillPages, planOf, begun, afterHints, afterRoots, afterSweep, unkeptPages, keptPages, filled, collection}
 use Rattle.rules.specs.Collect.{refusalOfCollect, CollectOutcome, refusedCollect, acceptedCollect, collect}
-use Rattle.rules.specs.InARow.{Took, NamesNoneTaken, InARow, SameNumbers}
+use Rattle.rules.specs.Demands.{Took}
+use Rattle.rules.specs.InARow.{NamesNoneTaken, InARow, SameNumbers}
 
 -- a page with these words, and blank behind them
 abbrev page : List ℕ → List ℕ

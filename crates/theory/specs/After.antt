@@ -161,6 +161,12 @@ module _ (m : Lent) (roots hints : List ℕ) (A : Ready m roots) where
   unfolding world planOf collection
   walked g e = covers W s inv tiled h′ g e (page-filled g e) (page-steps m′ g) (le-refl _) refl (at-place (first-place g e .0) (first-place g e .1) (first-on-page (page-pos m (S .valid)) g))
 
+  -- that of the copy page stops at its fill
+  pub copy-stop : at (s .pages .labels) (s .pages .copy) ≡ new
+      → stop m′ (s .pages .copy) ≡ s .pages .copy * m .rec .page + s .pages .fill
+  unfolding world planOf collection top
+  copy-stop e = walked (s .pages .copy) e .end refl
+
   -- the objects after are the retained ones
   pub kept-object : (x y : ℕ) → Kept W s x y → IsObject m′ y
   unfolding world planOf collection
@@ -266,7 +272,7 @@ module _ (m : Lent) (roots hints : List ℕ) (A : Ready m roots) where
       fill : s .pages .copy ≢ 0 → ((s .pages .copy ≡ 0) × (s .pages .fill ≡ m .rec .page)) ⊎ (at (s .pages .labels) (s .pages .copy) ≡ new)
           → stop m′ (s .pages .copy) ≡ s .pages .copy * m .rec .page + s .pages .fill
       fill n (inl z) = absurd (n (z .0))
-      fill n (inr e) = walked (s .pages .copy) e .end refl ∙ unfold top in refl
+      fill n (inr e) = copy-stop e
 
       references : (x y i : ℕ) → Kept W s x y → i < refs m′ y → (payload m′ y i ≡ 0) ⊎ IsObject m′ (payload m′ y i)
       references x y i K h = go (payload m x i) (kept-reference x y i K (rw (kept-header x y K) at h))

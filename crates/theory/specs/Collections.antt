@@ -11,7 +11,7 @@ use Rattle.rules.specs.Sound.{IsObject, Sound}
 use Rattle.rules.specs.Collection.{logged, plainly, Collection, planOf, collection}
 use Rattle.rules.specs.Collect.{CollectOutcome, neededFor, refusalOfCollect, acceptedCollect, refusedCollect, collect}
 use Rattle.rules.specs.Demands.{Faithful, FindsPages}
-use Rattle.rules.specs.InARow.{Took, SameNumbers}
+use Rattle.rules.specs.InARow.{SameNumbers}
 use Rattle.laws.specs.FreePages.{freePages}
 use Rattle.laws.specs.Safe.{SafeRun}
 use Rattle.laws.specs.Collect.{Ready, ready-says, ready-is, collect-accepts, collect-refuses}
@@ -19,9 +19,9 @@ use Rattle.theory.specs.KeptPages.{kept-length}
 use Rattle.theory.specs.Packs.{packs-within}
 use Rattle.theory.specs.Plainly.{collection-plainly, run-plainly}
 use Rattle.theory.specs.Run.{r as rootedOf, t as sweptOf, all-done, run-safe}
-use Rattle.theory.specs.After.{m′ as lentOf, in-use-new, after-sound}
+use Rattle.theory.specs.After.{m′ as lentOf, after-sound}
 use Rattle.theory.specs.Pairing.{told, outcome, Pairs, faithful, after-ready}
-use Rattle.theory.specs.Taken.{finds, taken-in-use, new-taken, none-kept}
+use Rattle.theory.specs.Taken.{finds, none-kept}
 use Rattle.theory.specs.Twice.{again, every, numbers}
 
 -- collect's outcome, and the theory's, which has the moves written down
@@ -55,23 +55,10 @@ module _ (m : Lent) (roots hints : List ℕ) (e : refusalOfCollect m roots ≡ 0
   taken-same = ap (λ (c : Collection). c .taken) (collection-plainly m roots hints)
 
   -- "Each accepted collection finds a free page whenever it needs one"
-  pub collect-finds : FindsPages m roots hints (collection plainly m roots hints .taken)
-  unfolding collection
-  collect-finds = subst (FindsPages m roots hints) (sym taken-same) (finds m roots hints A)
-
-  -- they are those that were free before and are in use after
-  pub collect-took : (g : ℕ) → List·Memᴰ g (collection plainly m roots hints .taken) → Took m (collect m roots hints) g
+  pub collect-finds : FindsPages m hints (collect m roots hints) (collection plainly m roots hints .taken)
   unfolding collection acceptedCollect
-  collect-took g mem = subst (λ (o : CollectOutcome). Took m o g) (sym (outcome-is m roots hints A)) (record {
-    free = collect-finds .free g mem .2;
-    inUse = taken-in-use m roots hints A g (subst (List·Memᴰ g) taken-same mem);
-  })
-
-  pub took-taken : (g : ℕ) → Took m (collect m roots hints) g → List·Memᴰ g (collection plainly m roots hints .taken)
-  unfolding collection acceptedCollect
-  took-taken g k =
-      let K : Took m (outcome m roots hints A) g = subst (λ (o : CollectOutcome). Took m o g) (outcome-is m roots hints A) k in
-      subst (List·Memᴰ g) (sym taken-same) (new-taken m roots hints A g (K .free) (in-use-new m roots hints A g (K .inUse)))
+  collect-finds = subst (λ (o : CollectOutcome). FindsPages m hints o (collection plainly m roots hints .taken)) (sym (outcome-is m roots hints A))
+      (subst (FindsPages m hints (outcome m roots hints A)) (sym taken-same) (finds m roots hints A))
 
   -- where as many pages are free as its words may need, it keeps none
   pub collect-unkept : neededFor m hints ≤ freePages (m .labels) 1 (m .rec .pages) → collection plainly m roots hints .kept ≡ []

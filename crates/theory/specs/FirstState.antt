@@ -27,6 +27,7 @@ use Rattle.theory.specs.Packing.{packed-none}
 use Rattle.theory.specs.KeptPages.{not-kept}
 use Rattle.theory.specs.World.{World, Kept, stayed, went, Place, home, away, Inv}
 use Rattle.theory.specs.Packs.{froms, Packs}
+use Rattle.theory.specs.Upward.{none-upward}
 use Rattle.theory.specs.Causes.{causes-none}
 use Rattle.theory.specs.Tile.{Next, another, blank, Tiled}
 use Rattle.theory.specs.Good.{Good}
@@ -179,7 +180,7 @@ module _ (m : Lent) (roots hints : List ℕ) (A : Ready m roots) where
       go (inl q) = absurd (n (free-stays g q))
       go (inr q) = in-use m S g q
 
-  was-free : (g : ℕ) → at (p .labels) g ≡ 0 → at (m .labels) g ≡ 0
+  pub was-free : (g : ℕ) → at (p .labels) g ≡ 0 → at (m .labels) g ≡ 0
   was-free g e = go (S .labels g)
     where
       us : (at (p .labels) g ≡ m .rec .label) ⊎ (at (p .labels) g ≡ otherLabel (m .rec .label)) → ⊥
@@ -233,6 +234,7 @@ module _ (m : Lent) (roots hints : List ℕ) (A : Ready m roots) where
     packs = first-packs;
     tiled = first-tiled;
     lined = record { queued = H .queued; last = λ u h. absurd (omega (arith, H .fill)) };
-    causes = causes-none world s (H .kept);
+    upward = none-upward world p (H .copy) refl;
+    causes = causes-none world s (H .kept) (λ j mem. absurd (List·Memᴰ·not-nil mem));
     filled = omega (arith, H .fill, page-pos m (S .valid));
   }

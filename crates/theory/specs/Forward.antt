@@ -15,7 +15,7 @@ use Rattle.rules.specs.Pages.{lowestFree}
 use Rattle.rules.specs.Collection.{State, onPages, Forwarded, takePage, withRoom, top, put, copyObject, canCopy, keepPage, keepObject, forward}
 use Rattle.rules.specs.Demands.{Becomes}
 use Rattle.laws.specs.FreePages.{Lowest, lowest-found}
-use Rattle.theory.specs.World.{pageOf, labelOf, sizeAt, World, Place, live-map, Gone, NotGone, AsBefore, Reach, Kept, stayed, went, Inv}
+use Rattle.theory.specs.World.{pageOf, labelOf, sizeAt, World, Place, reach-up, Gone, NotGone, AsBefore, Reach, Kept, stayed, went, Inv}
 use Rattle.theory.specs.Places.{unkept-standing, some-words, obj-label, kept-obj, kept-label, gone-or-not}
 use Rattle.theory.specs.Put.{Ready, put-inv, mem-new}
 use Rattle.theory.specs.Take.{Extends, ext-refl, ext-trans, put-ext, take-inv, take-ext, label-up}
@@ -116,7 +116,7 @@ module _ (W : World) (s : State) (I : Inv W s) (x : ℕ) (D : Due W s x) (av : A
           inv = take-inv W s I (av .unkept) (av .page lt);
           object = D .object;
           old = unfold takePage in (label-up W s I (av .unkept) (av .page lt) (pageOf W x) (λ q. W .old≢0 (sym (D .old) ∙ q)) ∙ D .old);
-          reached = live-map (take-ext W s I (av .unkept) (av .page lt) .stays) (D .reached);
+          reached = reach-up W s _ (take-ext W s I (av .unkept) (av .page lt) .stays) (take-ext W s I (av .unkept) (av .page lt) .moves) (D .reached);
           same = D .same;
           room = unfold takePage in (let h : 0 + sizeAt W x ≤ W .plan .page = omega (arith, W .fits x (D .object)) in h);
         };
@@ -130,6 +130,10 @@ module _ (W : World) (s : State) (I : Inv W s) (x : ℕ) (D : Due W s x) (av : A
       }
       go false e = more (leb-false _ _ e)
 
+  -- what was there before stays
+  pub copy-ext : Extends W s (copied W s x)
+  copy-ext = ext-trans W s (roomFor W s x) _ (open-room .ext) (put-ext W (roomFor W s x) x (open-room .ready))
+
   -- what copying gives
   copy-is : copyObject (W .plan) x s ≡ record { value = top (W .plan) (roomFor W s x .pages); state = copied W s x }
   unfolding copyObject put
@@ -138,7 +142,7 @@ module _ (W : World) (s : State) (I : Inv W s) (x : ℕ) (D : Due W s x) (av : A
   copy-forwards : Forwards W s x (record { value = top (W .plan) (roomFor W s x .pages); state = copied W s x })
   copy-forwards = record {
     inv = put-inv W (roomFor W s x) x R;
-    ext = ext-trans W s (roomFor W s x) _ (open-room .ext) (put-ext W (roomFor W s x) x R);
+    ext = copy-ext;
     becomes = inr (went (record { from = x; to = top (W .plan) (roomFor W s x .pages) }) (mem-new W (roomFor W s x) x R) refl refl);
     how = copies D av refl;
   }

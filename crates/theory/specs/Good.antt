@@ -17,11 +17,12 @@ use Rattle.laws.specs.Safe.{SafeForward}
 use Rattle.theory.specs.World.{Swept, becomes-map, pageOf, labelOf, sizeAt, refsAt, World, stay, Reach, Kept, stayed, went, Region, Inv}
 use Rattle.theory.specs.Places.{some-words, kept-obj, kept-region}
 use Rattle.theory.specs.Put.{Ready, put-inv, top-page, mem-new, kept-split}
-use Rattle.theory.specs.Take.{Extends, ext-trans, ext-kept, put-ext, take-back}
+use Rattle.theory.specs.Take.{Extends, ext-kept, take-back}
 use Rattle.theory.specs.Keep.{Comes, kept-split as keep-split, keep-inv, keep-ext}
-use Rattle.theory.specs.Forward.{Due, Avail, roomFor, copied, keeping, How, idle, copies, keeps, Forwards, Opened, open-room, forward-forwards}
+use Rattle.theory.specs.Forward.{Due, Avail, roomFor, copied, keeping, How, idle, copies, keeps, Forwards, Opened, open-room, copy-ext, forward-forwards}
 use Rattle.theory.specs.Packs.{Packs, packs-within, packs-how}
 use Rattle.theory.specs.ForwardSafe.{forward-safe}
+use Rattle.theory.specs.Upward.{Upward, copy-upward, keep-upward}
 use Rattle.theory.specs.Causes.{Causes, causes-how}
 use Rattle.theory.specs.Tile.{Tiled, Lined, take-tiled, take-lined, put-tiled, put-lined, keep-tiled, keep-lined}
 
@@ -30,6 +31,7 @@ pub record Good (W : World) (s : State) : Type 0 where
   pub packs : Packs W s
   pub tiled : Tiled W s
   pub lined : Lined W s
+  pub upward : Upward W (s .pages)
   pub causes : Causes W s
   pub filled : 0 < s .pages .fill
 
@@ -132,7 +134,7 @@ module _ (W : World) (s : State) (G : Good W s) (x : ℕ) (D : Due W s x) (av : 
   R = O .ready
 
   E : Extends W s t′
-  E = ext-trans W s t t′ (O .ext) (put-ext W t x R)
+  E = copy-ext W s (G .inv) x D av
 
   copy-good : Good W t′
   unfolding put
@@ -141,6 +143,7 @@ module _ (W : World) (s : State) (G : Good W s) (x : ℕ) (D : Due W s x) (av : 
     packs = packs-how W s x t′ (G .inv) (G .packs) (copies D av refl);
     tiled = put-tiled W t x R (room .tiled);
     lined = put-lined W t x R (room .lined);
+    upward = copy-upward W s (G .inv) x av (G .upward);
     causes = causes-how W s x t′ (G .inv) (packs-within W s (G .packs)) (G .causes) (copies D av refl);
     filled = omega (arith, some-words W x (D .object));
   }
@@ -202,6 +205,7 @@ module _ (W : World) (s : State) (G : Good W s) (x : ℕ) (D : Due W s x) (cant 
     packs = packs-how W s x k′ (G .inv) (G .packs) (keeps D cant refl);
     tiled = keep-tiled W s (G .inv) x (D .object) (D .old) within (G .tiled);
     lined = keep-lined W s (G .inv) x (D .object) (D .old) within (G .lined);
+    upward = keep-upward W s (G .inv) within x D (G .upward);
     causes = causes-how W s x k′ (G .inv) within (G .causes) (keeps D cant refl);
     filled = G .filled;
   }

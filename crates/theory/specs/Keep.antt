@@ -149,7 +149,7 @@ module _ (W : World) (s : State) (I : Inv W s) (x : ℕ) (ob : W .Obj x) (old : 
       free k h (inr e) = inr (new-up k e)
 
       moved : (m : Move) → List·Memᴰ m (s .moves) → Moved W t m
-      moved m h = let M : Moved W s m = I .moved m h in moved-on W s t m M stays-up (M .planted) (new-up (pageOf W (m .to)) (M .label)) (M .below)
+      moved m h = let M : Moved W s m = I .moved m h in moved-on W s t m M stays-up (λ j k. k) (M .planted) (new-up (pageOf W (m .to)) (M .label)) (M .below)
 
       header : (a b : ℕ) → Kept W s a b ⊎ Comes a b → at (s .heap) b ≡ at (W .heap) a
       header a b (inl k) = I .header a b k

@@ -12,6 +12,7 @@ pub mod Keep
 pub mod Forward
 pub mod Packs
 pub mod ForwardSafe
+pub mod Upward
 pub mod Causes
 pub mod Store
 pub mod Tile

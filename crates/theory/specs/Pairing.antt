@@ -2,7 +2,7 @@
 -- else remains but the fillers.
 use mathlib.Core.Path.{_≡_, refl, sym, ap, _∙_, subst}
 use mathlib.Core.Logic.{_≢_, _⊎_, inl, inr}
-use mathlib.Core.List.{List, List·Memᴰ, Memᴰ·cast}
+use mathlib.Core.List.{List, [], List·Memᴰ, Memᴰ·cast}
 use Prim.Native.Nat.{ℕ, suc, _+_, _*_, _-_, _/_, _≤_, _<_}
 use native.Mathlib.Omega.{arith}
 use lib.ListN.{length, take}
@@ -13,7 +13,7 @@ use Rattle.rules.specs.Lent.{Lent}
 use Rattle.rules.specs.Sound.{InUse, IsObject, refs, payload, Sound}
 use Rattle.rules.specs.Collection.{logged, Move, State, Collection, planOf, keptPages, collection}
 use Rattle.rules.specs.Collect.{CollectOutcome, acceptedCollect}
-use Rattle.rules.specs.Demands.{Hinted, Reached, staying, byRoot, byReference, Becomes, Paired, HoldsCopy, OnHintedOrKept, Keeps, Fills, Faithful}
+use Rattle.rules.specs.Demands.{Hinted, OnHinted, ReachedBy, staying, byRoot, byReference, Reached, Becomes, Paired, HoldsCopy, OnHintedOrKept, Moved, ReachedKeeping, KeptFor, LastFree, Overfills, Keeps, Fills, Faithful}
 use Rattle.laws.specs.Walk.{size}
 use Rattle.laws.specs.Pages.{first-on-page}
 use Rattle.theory.specs.Sums.{mem-at}
@@ -21,7 +21,7 @@ use Rattle.theory.specs.KeptPages.{kept-length, kept-once}
 use Rattle.theory.specs.World.{becomes-map, World, Live, root, stay, ref, Gone, NotGone, Stays, Kept, stayed, went, Place, home, away, KeptPage}
 use Rattle.theory.specs.Places.{SameOrApart, some-words, Standing, there, left, gone-or-not, hinted-label, old-new-kept, kept-obj, kept-apart, kept-from}
 use Rattle.theory.specs.Packs.{packs-within}
-use Rattle.theory.specs.Causes.{StaysBy}
+use Rattle.theory.specs.Causes.{StaysBy, ReachedBy as ReachedWith, Cause}
 use Rattle.theory.specs.Good.{kept-reach}
 use Rattle.theory.specs.Fillers.{filler-size, filler-refs}
 use Rattle.laws.specs.Collect.{Ready}
@@ -30,9 +30,9 @@ use Rattle.laws.specs.Objects.{page-pos}
 use Rattle.laws.specs.Valid.{label-pos}
 use Rattle.theory.specs.FirstState.{world, hinted-new, new-hinted, used-kind, free-stays}
 use Rattle.theory.specs.Run.{W as worldOf, r as rootedOf, t as sweptOf, roots-done, all-done}
-use Rattle.theory.specs.After.{m′ as lentOf, inv, after-sound, F as filledOf, first-place, kept-object, object-standing, left-object, left-header, left-zeros, kept-word, kept-header, kept-reference, new-in-use, in-use-new}
+use Rattle.theory.specs.After.{m′ as lentOf, inv, tiled, copy-stop, after-sound, F as filledOf, first-place, kept-object, object-standing, left-object, left-header, left-zeros, kept-word, kept-header, kept-reference, new-in-use, in-use-new}
 use Rattle.theory.specs.Plainly.{unlogged}
-use Rattle.theory.specs.Taken.{free-taken}
+use Rattle.theory.specs.Taken.{free-taken, taken-in-use, last-copy}
 
 module _ (m : Lent) (roots hints : List ℕ) (A : Ready m roots) where
   abbrev S : Sound m
@@ -116,15 +116,17 @@ module _ (m : Lent) (roots hints : List ℕ) (A : Ready m roots) where
   reached (staying {x = x} ob (inl h)) = (x, stayed (hinted-stays x ob h) refl)
   reached (staying {x = x} ob (inr q)) = (x, q .stayed)
   reached (byRoot {x = x} ob mem) = let (j, lt, e) = mem-at roots x mem in paired x (at roots j) _ (sym e) (object-nonzero m S x ob) (root-becomes j lt)
-  reached (byReference {x = x} z i lv h e ob) = let (y, K) = reached lv in paired x (payload m z i) _ e (object-nonzero m S x ob) (kept-reference m roots hints A z y i K h)
+  reached (byReference {x = x} z i lv u h e ob) = let (y, K) = reached lv in paired x (payload m z i) _ e (object-nonzero m S x ob) (kept-reference m roots hints A z y i K h)
 
-  live-reached : {Stay Stay′ : ℕ → Type 0} → ((x : ℕ) → Stay x → IsObject m x × Stay′ x)
-      → {x : ℕ} → Live (m .heap) (IsObject m) (λ x. IsObject m x × List·Memᴰ x roots) Stay x → Reached m roots Stay′ x
-  live-reached f (root (ob, mem)) = byRoot ob mem
-  live-reached f (stay {x = x} q) = let (ob, z) = f x q in staying ob z
-  live-reached f (ref z i lv low high e ob) =
+  live-reached : {Stay Stay′ Via Via′ : ℕ → Type 0} → ((x : ℕ) → Stay x → IsObject m x × Stay′ x)
+      → ((x : ℕ) → Via x → Via′ x)
+      → {x : ℕ} → Live (m .heap) (IsObject m) (λ x. IsObject m x × List·Memᴰ x roots) Stay Via x
+      → ReachedBy m roots Stay′ Via′ x
+  live-reached f g (root (ob, mem)) = byRoot ob mem
+  live-reached f g (stay {x = x} q) = let (ob, z) = f x q in staying ob z
+  live-reached f g (ref z i lv v low high e ob) =
       let q : z + i ≡ z + 1 + (i - 1) = omega arith in
-      byReference z (i - 1) (live-reached f lv) (omega arith) (e ∙ ap (at (m .heap)) q) ob
+      byReference z (i - 1) (live-reached f g lv) (g z v) (omega arith) (e ∙ ap (at (m .heap)) q) ob
 
   stays-where : (x : ℕ) → Stays W s x → IsObject m x × OnHintedOrKept m hints kept Pairs x
   unfolding world planOf
@@ -144,7 +146,7 @@ module _ (m : Lent) (roots hints : List ℕ) (A : Ready m roots) where
 
   pair-reached : (x y : ℕ) → Pairs x y → Reached m roots (OnHintedOrKept m hints kept Pairs) x
   unfolding world
-  pair-reached x y K = live-reached stays-where (kept-reach W s (inv m roots hints A) x y K)
+  pair-reached x y K = live-reached stays-where (λ z v. tt) (kept-reach W s (inv m roots hints A) x y K)
 
   -- ---- one to one
 
@@ -206,6 +208,15 @@ module _ (m : Lent) (roots hints : List ℕ) (A : Ready m roots) where
   unfolding world planOf collection
   left-filler x y k j mem e = Memᴰ·cast e (filledOf m roots hints A .all j mem (subst (λ (a : ℕ). List·Memᴰ (a / m .rec .page) kept) e k))
 
+  -- what is reached where i pages are kept
+  reached-keeping : (i : ℕ) {x : ℕ} → ReachedWith W s i x → ReachedKeeping m roots hints (take i kept) Pairs x
+  unfolding world planOf
+  reached-keeping i = live-reached (stays-by i) via
+    where
+      via : (z : ℕ) → StaysBy W s i z ⊎ Gone s z → OnHintedOrKept m hints (take i kept) Pairs z ⊎ Moved Pairs z
+      via z (inl q) = inl (stays-by i z q .1)
+      via z (inr (j, mem, e)) = inr (j .to, went j mem e refl, λ q. moved-elsewhere j mem (q ∙ e))
+
   keeps : Keeps m roots hints outcome told Pairs
   unfolding world planOf collection acceptedCollect
   keeps = record {
@@ -213,8 +224,12 @@ module _ (m : Lent) (roots hints : List ℕ) (A : Ready m roots) where
     unhinted = λ g k. kept-unhinted g (inv m roots hints A .kept g k);
     inUse = λ g k. new-in-use m roots hints A g (inv m roots hints A .kept g k .label);
     all = λ x ob k. all x ob k (gone-or-not W s x);
-    holds = λ i h. let c = all-done m roots hints A .good .causes .each i h in (c .from, c .page, live-reached (stays-by i) (c .reached));
-    full = λ g h k. free-taken m roots hints A (some h k) g;
+    holds = λ i h. let c : Cause W s i = all-done m roots hints A .good .causes .each i h in (c .from, kept-for c);
+    room = λ h. record {
+      tight = let c : Cause W s 0 = all-done m roots hints A .good .causes .each 0 h in (c .from, kept-for c, λ g L. overfills (some h) c g L);
+      full = λ g low high e. copies g e (pages g (taken-in-use m roots hints A g (free-taken m roots hints A (some h) g low high e)));
+      moved = moved;
+    };
     once = kept-once (s .pages) within (all-done m roots hints A .good .lined .queued .once);
     count = refl;
   }
@@ -223,8 +238,31 @@ module _ (m : Lent) (roots hints : List ℕ) (A : Ready m roots) where
       all x ob k (inl (j, mem, e)) = inr (left-filler x x k j mem e)
       all x ob k (inr n) = inl (stayed (record { object = ob; label = inv m roots hints A .kept _ k .label; notGone = n }) refl)
 
-      some : (h : ℕ) → List·Memᴰ h kept → 0 < s .pages .kept
-      some h k = let (i, lt, e) = mem-at kept h k in omega (arith, kept-length (s .pages) within)
+      some : 0 < length kept → 0 < s .pages .kept
+      some h = omega (arith, kept-length (s .pages) within)
+
+      kept-for : {i : ℕ} → (c : Cause W s i) → KeptFor m roots hints kept Pairs i (c .from)
+      kept-for {i} c = record { page = c .page; stayed = stayed (c .stays) refl; reached = reached-keeping i (c .reached) }
+
+      -- the copy page stopped at its fill, and has the new label since it is not page 0
+      overfills : 0 < s .pages .kept → (c : Cause W s 0) → (g : ℕ) → LastFree m g
+          → Overfills m′ g (sizeOf (at (m .heap) (c .from)))
+      overfills pos c g L = rw (last-copy m roots hints A pos g L) (go (tiled m roots hints A .copyIs))
+        where
+          go : ((s .pages .copy ≡ 0) × (s .pages .fill ≡ m .rec .page)) ⊎ (at (s .pages .labels) (s .pages .copy) ≡ new) → Overfills m′ (s .pages .copy) (sizeOf (at (m .heap) (c .from)))
+          go (inl (e, z)) = absurd (omega (arith, L .low, last-copy m roots hints A pos g L))
+          go (inr e) = rw (copy-stop m roots hints A e) (omega (arith, c .tight refl))
+
+      -- a page that was free was neither hinted nor kept
+      copies : (g : ℕ) → at (m .labels) g ≡ 0 → Hinted m hints g ⊎ (HoldsCopy m Pairs g ⊎ List·Memᴰ g kept)
+          → HoldsCopy m Pairs g
+      copies g e (inl h) = absurd (label-pos m (S .valid) (sym (h .inUse .label) ∙ e))
+      copies g e (inr (inl c)) = c
+      copies g e (inr (inr k)) = absurd (label-pos m (S .valid) (sym (kept-was-used g (inv m roots hints A .kept g k) .label) ∙ e))
+
+      moved : (x : ℕ) → Moved Pairs x → ReachedKeeping m roots hints [] Pairs x
+      moved x (y, stayed q e, n) = absurd (n e)
+      moved x (y, went j mem ex ey, n) = subst (ReachedKeeping m roots hints [] Pairs) (sym ex) (reached-keeping 0 (all-done m roots hints A .good .causes .moved j mem))
 
   fills : Fills m outcome told Pairs
   unfolding world planOf collection acceptedCollect

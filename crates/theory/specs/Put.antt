@@ -13,7 +13,7 @@ use Rattle.rules.specs.Ranges.{at}
 use Rattle.rules.specs.Collection.{Move, Pages, State, noted, top, put, keptPages}
 use Rattle.laws.specs.Pages.{page-of, page-end, same-page, pages-apart}
 use Rattle.laws.specs.Words.{in-range, copied-in, copied-out}
-use Rattle.theory.specs.World.{pageOf, labelOf, labelWas, sizeAt, refsAt, World, live-map, Gone, AsBefore, Stays, Reach, Kept, stayed, went, becomes-map, Place, home, away, Swept, MovesApart, Region, Moved, moved-on, kept-same, labelled-same, Inv}
+use Rattle.theory.specs.World.{pageOf, labelOf, labelWas, sizeAt, refsAt, World, reach-up, Gone, AsBefore, Stays, Reach, Kept, stayed, went, becomes-map, Place, home, away, Swept, MovesApart, Region, Moved, moved-on, kept-same, labelled-same, Inv}
 use Rattle.theory.specs.Places.{obj-used, some-words, old-before, kept-obj, kept-region}
 
 -- ---- an object copied to the top
@@ -199,7 +199,7 @@ module _ (W : World) (s : State) (x : ℕ) (R : Ready W s x) where
       here = record {
         object = R .object;
         old = was-old;
-        reached = live-map stays-up (R .reached);
+        reached = reach-up W s s′ stays-up mem-up (R .reached);
         planted = planted;
         fresh = ap (at (W .labels)) top-page ∙ R .inv .copyFresh;
         label = ap (at (s .pages .labels)) top-page ∙ copy-label;
@@ -218,7 +218,7 @@ module _ (W : World) (s : State) (x : ℕ) (R : Ready W s x) where
       go (inr e) = subst (λ (k : Move). Moved W s′ k) (sym e) here
       go (inl k) =
           let M : Moved W s m = R .inv .moved m k in
-          moved-on W s s′ m M stays-up (put-used (m .from) (not-x m k) (obj-used W (m .from) (M .object)) ∙ M .planted) (M .label)
+          moved-on W s s′ m M stays-up mem-up (put-used (m .from) (not-x m k) (obj-used W (m .from) (M .object)) ∙ M .planted) (M .label)
           (λ q. let b : m .to + sizeAt W (m .from) ≤ y = M .below q in omega arith)
 
   unmoved′ : (a : ℕ) → W .Obj a → labelOf W s a ≡ W .plan .old → Gone s′ a ⊎ AsBefore W s′ a

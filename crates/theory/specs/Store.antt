@@ -147,7 +147,7 @@ module _ (W : World) (t : State) (I : Inv W t) (x y i u : ℕ) (S : Slot W t x y
   }
     where
       moved : (m : Move) → List·Memᴰ m (t .moves) → Moved W t′ m
-      moved m h = let M : Moved W t m = I .moved m h in moved-on W t t′ m M stays-up (planted-same m h ∙ M .planted) (M .label) (M .below)
+      moved m h = let M : Moved W t m = I .moved m h in moved-on W t t′ m M stays-up (λ j k. k) (planted-same m h ∙ M .planted) (M .label) (M .below)
 
       unmoved : (a : ℕ) → W .Obj a → labelOf W t a ≡ W .plan .old → Gone t a ⊎ AsBefore W t a → Gone t′ a ⊎ AsBefore W t′ a
       unmoved a ob old (inl z) = inl z

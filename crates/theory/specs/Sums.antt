@@ -98,6 +98,9 @@ mem-at (y ∷ l) x h = go (λ q. mem-at l x q) (List·Memᴰ·cases-cons h)
     go ih (inl e) = (0, omega arith, sym e)
     go ih (inr q) = let (j, a, b) = ih q in (suc j, omega arith, b)
 
+pub member-length : {l : List ℕ} {x : ℕ} → List·Memᴰ x l → 0 < length l
+member-length {l} {x} k = let (j, lt, e) = mem-at l x k in omega arith
+
 pub at-mem : (l : List ℕ) (j : ℕ) → j < length l → List·Memᴰ (at l j) l
 at-mem [] j h = absurd (omega arith)
 at-mem (y ∷ l) zero h = List·Memᴰ·head refl

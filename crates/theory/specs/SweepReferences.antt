@@ -9,11 +9,11 @@ use Rattle.rules.specs.Ranges.{at}
 use Rattle.rules.specs.Collection.{State, Forwarded, forward, sweepReference, sweepReferences}
 use Rattle.rules.specs.Demands.{Becomes}
 use Rattle.laws.specs.Safe.{SafeForward, SafeReferences}
-use Rattle.theory.specs.World.{Swept, refsAt, World, ref, live-map, Reach, Kept, Inv}
+use Rattle.theory.specs.World.{Swept, refsAt, World, ref, Retained, Reach, Kept, stayed, went, Inv}
 use Rattle.theory.specs.Places.{kept-obj, kept-label}
 use Rattle.theory.specs.Forward.{idle, forward-self}
 use Rattle.theory.specs.Packs.{Packs}
-use Rattle.theory.specs.Causes.{StaysBy, Cause, Causes}
+use Rattle.theory.specs.Causes.{StaysBy, by-up, Cause, Causes}
 use Rattle.theory.specs.ForwardSafe.{forward-safe}
 use Rattle.theory.specs.Store.{stored, Slot, stays-up, kept-up, kept-back, slot-swept, swept-up, store-inv}
 use Rattle.theory.specs.Tile.{store-tiled, store-lined}
@@ -39,13 +39,19 @@ module _ (W : World) (t : State) (I : Inv W t) (x y i u : ℕ) (S : Slot W t x y
   store-packs K = record { taken = K .taken; joined = K .joined; left = K .left; unkept = K .unkept; distinct = K .distinct; packed = K .packed; words = K .words; objects = K .objects }
 
   store-causes : Causes W t → Causes W t′
-  store-causes C = record { each = λ j h. each (C .each j h); full = C .full }
+  store-causes C = record { each = λ j h. each (C .each j h); full = C .full; moved = λ m k. by-up W t t′ 0 (by 0) (λ m k. k) (C .moved m k) }
     where
       by : (j a : ℕ) → StaysBy W t j a → StaysBy W t′ j a
       by j a q = record { stays = stays-up W t I x y i u S a (q .stays); page = q .page }
 
       each : {j : ℕ} → Cause W t j → Cause W t′ j
-      each {j} c = record { from = c .from; object = c .object; page = c .page; reached = live-map (by j) (c .reached) }
+      each {j} c = record {
+        from = c .from;
+        page = c .page;
+        stays = stays-up W t I x y i u S (c .from) (c .stays);
+        reached = by-up W t t′ j (by j) (λ m k. k) (c .reached);
+        tight = c .tight;
+      }
 
 -- ---- a reference swept
 
@@ -65,9 +71,13 @@ module _ (W : World) (s : State) (G : Good W s) (x y i : ℕ) (K : Kept W s x y)
       as-before : at (s .heap) (y + i) ≡ v → Went W s v f (SafeForward (W .plan) (at (s .heap) (y + i)) s)
       as-before e = rw e (forward-went W s G v (which (W .references x i ob low high)))
         where
+          retained : Kept W s x y → Retained W s x
+          retained (stayed q z) = inl q
+          retained (went m mem ex ey) = inr (m, mem, ex)
+
           which : (v ≡ 0) ⊎ W .Obj v → (v ≡ 0) ⊎ (W .Obj v × Reach W s v)
           which (inl z) = inl z
-          which (inr o) = inr (o, ref x i (kept-reach W s (G .inv) x y K) low high refl o)
+          which (inr o) = inr (o, ref x i (kept-reach W s (G .inv) x y K) (retained K) low high refl o)
 
       go : (at (s .heap) (y + i) ≡ v) ⊎ Becomes (Kept W s) v (at (s .heap) (y + i)) → Went W s v f (SafeForward (W .plan) (at (s .heap) (y + i)) s)
       go (inl e) = as-before e
@@ -94,6 +104,7 @@ module _ (W : World) (s : State) (G : Good W s) (x y i : ℕ) (K : Kept W s x y)
     packs = store-packs W t (reference-went .good .inv) x y i (f .value) slot (reference-went .good .packs);
     tiled = store-tiled W t (reference-went .good .inv) x y i (f .value) slot (reference-went .good .tiled);
     lined = store-lined W t (reference-went .good .inv) x y i (f .value) slot (reference-went .good .lined);
+    upward = reference-went .good .upward;
     causes = store-causes W t (reference-went .good .inv) x y i (f .value) slot (reference-went .good .causes);
     filled = reference-went .good .filled;
   }

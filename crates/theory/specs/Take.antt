@@ -143,7 +143,7 @@ module _ (W : World) (s : State) (I : Inv W s) (unkept : s .pages .kept ≡ 0) (
       moved : (m : Move) → List·Memᴰ m (s .moves) → Moved W t m
       moved m h =
           let M : Moved W s m = I .moved m h in
-          moved-on W s t m M take-stays (M .planted) (new-up (pageOf W (m .to)) (M .label)) (λ q. absurd (not-page (pageOf W (m .to)) (new-used (pageOf W (m .to)) (M .label)) q))
+          moved-on W s t m M take-stays (λ j k. k) (M .planted) (new-up (pageOf W (m .to)) (M .label)) (λ q. absurd (not-page (pageOf W (m .to)) (new-used (pageOf W (m .to)) (M .label)) q))
 
       go : (a b i : ℕ) → (at (s .heap) (b + i) ≡ at (W .heap) (a + i)) ⊎ Becomes (Kept W s) (at (W .heap) (a + i)) (at (s .heap) (b + i))
           → (at (s .heap) (b + i) ≡ at (W .heap) (a + i)) ⊎ Becomes (Kept W t) (at (W .heap) (a + i)) (at (s .heap) (b + i))

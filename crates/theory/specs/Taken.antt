@@ -1,6 +1,7 @@
 -- The pages that an accepted collection takes: they were free, each is taken once, and they are no more than the words on pages
--- that no hint names may need. All that were free are taken before a page is kept, and where there are as many none is.
-use mathlib.Core.Path.{_≡_, sym, ap, _∙_}
+-- that no hint names may need. All that were free are taken before a page is kept, the highest-numbered last; and where
+-- there are as many as may be needed, none is kept.
+use mathlib.Core.Path.{_≡_, refl, sym, ap, _∙_}
 use mathlib.Core.Logic.{_⊎_, inl, inr}
 use mathlib.Core.List.{List, [], List·Memᴰ, Memᴰ·cast}
 use Prim.Native.Nat.{ℕ, _+_, _-_, _≤_, _<_}
@@ -13,9 +14,9 @@ use Rattle.rules.specs.Ranges.{at}
 use Rattle.rules.specs.Pages.{otherLabel}
 use Rattle.rules.specs.Lent.{Lent}
 use Rattle.rules.specs.Sound.{InUse, Sound}
-use Rattle.rules.specs.Collection.{State, planOf, unkeptPages, keptPages, collection}
-use Rattle.rules.specs.Collect.{neededFor}
-use Rattle.rules.specs.Demands.{FindsPages}
+use Rattle.rules.specs.Collection.{logged, State, planOf, unkeptPages, keptPages, collection}
+use Rattle.rules.specs.Collect.{neededFor, acceptedCollect}
+use Rattle.rules.specs.Demands.{LastFree, FindsPages}
 use Rattle.laws.specs.FreePages.{freePages}
 use Rattle.theory.specs.Sums.{mem-at, at-mem}
 use Rattle.theory.specs.KeptPages.{kept-none, kept-length, kept-at}
@@ -25,9 +26,9 @@ use Rattle.theory.specs.Good.{Grow, grow-trans}
 use Rattle.laws.specs.Collect.{Ready}
 use Rattle.theory.specs.SoundHeap.{other≢0, other≢label, words-are}
 use Rattle.laws.specs.Valid.{label-pos}
-use Rattle.theory.specs.FirstState.{p as pagesOf, s as firstOf, H, world, labels-length, used-kind, free-stays, free-same-pages}
+use Rattle.theory.specs.FirstState.{p as pagesOf, s as firstOf, H, world, labels-length, used-kind, free-stays, was-free as first-free, free-same-pages}
 use Rattle.theory.specs.Run.{W as worldOf, r as rootedOf, t as sweptOf, roots-done, all-done}
-use Rattle.theory.specs.After.{m′ as lentOf, inv, new-in-use}
+use Rattle.theory.specs.After.{m′ as lentOf, inv, tiled, new-in-use, in-use-new}
 
 module _ (m : Lent) (roots hints : List ℕ) (A : Ready m roots) where
   abbrev S : Sound m
@@ -129,17 +130,6 @@ module _ (m : Lent) (roots hints : List ℕ) (A : Ready m roots) where
       let G = all-done m roots hints A .good in
       rw (← words-are m hints) (omega (arith, taken-length, G .packs .joined, packs-few W s (G .inv) (G .packs) (G .filled)))
 
-  pub finds : FindsPages m roots hints taken
-  unfolding collection planOf
-  finds = record {
-    free = λ g mem. let u = taken-in-use g mem in let (j, lt, e) = mem-at taken g mem in (u .low, u .high, ap (at (m .labels)) (sym e) ∙ was-free j lt);
-    distinct = λ i j hi hj e.
-        let z : length before + i ≡ length before + j =
-        all-done m roots hints A .good .lined .queued .once (length before + i) (length before + j) (place-inside i hi) (place-inside j hj) (sym (place i hi) ∙ e ∙ place j hj) in
-        omega arith;
-    few = taken-words;
-  }
-
   -- a page that was free and has the new label is taken
   pub new-taken : (g : ℕ) → at (m .labels) g ≡ 0 → at (s .pages .labels) g ≡ new → List·Memᴰ g taken
   unfolding world planOf
@@ -176,6 +166,19 @@ module _ (m : Lent) (roots hints : List ℕ) (A : Ready m roots) where
           here : at taken (j - length before) ≡ g
           here = place (j - length before) inside ∙ ap (at queue) (omega (arith, behind)) ∙ q
 
+  pub finds : FindsPages m hints (acceptedCollect (collection logged m roots hints)) taken
+  unfolding collection acceptedCollect planOf
+  finds = record {
+    took = λ g mem. record { free = let (j, lt, e) = mem-at taken g mem in ap (at (m .labels)) (sym e) ∙ was-free j lt; inUse = taken-in-use g mem };
+    all = λ g k. new-taken g (k .free) (in-use-new m roots hints A g (k .inUse));
+    distinct = λ i j hi hj e.
+        let z : length before + i ≡ length before + j =
+        all-done m roots hints A .good .lined .queued .once (length before + i) (length before + j) (place-inside i hi) (place-inside j hj) (sym (place i hi) ∙ e ∙ place j hj) in
+        omega arith;
+    count = refl;
+    few = taken-words;
+  }
+
   -- where a page is kept, that is each page that was free
   pub free-taken : 0 < s .pages .kept → (g : ℕ) → 1 ≤ g → g < m .rec .pages → at (m .labels) g ≡ 0 → List·Memᴰ g taken
   unfolding world planOf
@@ -184,6 +187,30 @@ module _ (m : Lent) (roots hints : List ℕ) (A : Ready m roots) where
       then : (at (s .pages .labels) g ≡ 0) ⊎ (at (s .pages .labels) g ≡ new) → List·Memᴰ g taken
       then (inl z) = absurd (all-done m roots hints A .good .causes .full pos g low (omega (arith, W .high, labels-length m roots hints A)) z)
       then (inr z) = new-taken g e z
+
+  -- and the highest-numbered of them is the copy page
+  pub last-copy : 0 < s .pages .kept → (g : ℕ) → LastFree m g → g ≡ s .pages .copy
+  unfolding world planOf collection
+  last-copy pos g F = omega (arith, not-behind, not-before)
+    where
+      not-behind : g ≤ s .pages .copy
+      not-behind = go (decLt (s .pages .copy) g)
+        where
+          go : Dec (s .pages .copy < g) → g ≤ s .pages .copy
+          go (no n) = omega arith
+          go (yes l) = absurd (all-done m roots hints A .good .causes .full pos g (F .low) (omega (arith, F .high, W .high, labels-length m roots hints A))
+              (all-done m roots hints A .good .upward .behind g l (free-stays m roots hints A g (F .free))))
+
+      not-before : s .pages .copy ≤ g
+      not-before = go (decLt g (s .pages .copy)) (tiled m roots hints A .copyIs)
+        where
+          go : Dec (g < s .pages .copy)
+              → ((s .pages .copy ≡ 0) × (s .pages .fill ≡ m .rec .page)) ⊎ (at (s .pages .labels) (s .pages .copy) ≡ new) → s .pages .copy ≤ g
+          go (no n) c = omega arith
+          go (yes l) (inl (e, z)) = absurd (omega arith)
+          go (yes l) (inr e) =
+              let u = new-in-use m roots hints A (s .pages .copy) e in
+              absurd (F .above (s .pages .copy) l (u .high) (first-free m roots hints A (s .pages .copy) (inv m roots hints A .copyFresh)))
 
   -- where as many pages are free as the words may need, none is kept
   pub none-kept : neededFor m hints ≤ freePages (m .labels) 1 (m .rec .pages) → keptPages (s .pages) ≡ []

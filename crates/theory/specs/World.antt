@@ -13,16 +13,19 @@ use Rattle.rules.specs.Collection.{Move, Plan, State, top, keptPages}
 use Rattle.rules.specs.Demands.{Becomes}
 use Rattle.laws.specs.Walk.{size}
 
--- what is reached: the roots, the objects that stay, and what those that are reached refer to
-pub data Live (h : List ℕ) (Obj Root Stay : ℕ → Type 0) : ℕ → Type 0 where
-  root : {x : ℕ} → Root x → Live h Obj Root Stay x
-  stay : {x : ℕ} → Stay x → Live h Obj Root Stay x
-  ref : {x : ℕ} (z i : ℕ) → Live h Obj Root Stay z → 0 < i → i ≤ refsOf (at h z) → x ≡ at h (z + i) → Obj x → Live h Obj Root Stay x
+-- what is reached: the roots, the objects that stay, and what those that are reached refer to, where `Via` admits them
+pub data Live (h : List ℕ) (Obj Root Stay Via : ℕ → Type 0) : ℕ → Type 0 where
+  root : {x : ℕ} → Root x → Live h Obj Root Stay Via x
+  stay : {x : ℕ} → Stay x → Live h Obj Root Stay Via x
+  ref : {x : ℕ} (z i : ℕ) → Live h Obj Root Stay Via z → Via z → 0 < i → i ≤ refsOf (at h z) → x ≡ at h (z + i)
+      → Obj x → Live h Obj Root Stay Via x
 
-pub live-map : {h : List ℕ} {Obj Root Stay Stay′ : ℕ → Type 0} → ((x : ℕ) → Stay x → Stay′ x) → {x : ℕ} → Live h Obj Root Stay x → Live h Obj Root Stay′ x
-live-map f (root r) = root r
-live-map f (stay {x = x} q) = stay (f x q)
-live-map f (ref z i l a b e ob) = ref z i (live-map f l) a b e ob
+pub live-map : {h : List ℕ} {Obj Root Stay Stay′ Via Via′ : ℕ → Type 0} → ((x : ℕ) → Stay x → Stay′ x)
+    → ((x : ℕ) → Via x → Via′ x)
+    → {x : ℕ} → Live h Obj Root Stay Via x → Live h Obj Root Stay′ Via′ x
+live-map f g (root r) = root r
+live-map f g (stay {x = x} q) = stay (f x q)
+live-map f g (ref z i l v a b e ob) = ref z i (live-map f g l) (g z v) a b e ob
 
 -- What a collection starts from, once the hints are read: the plan, which writes the moves down; the heap; the labels as the
 -- hints left them; which addresses are objects, which are roots.
@@ -92,8 +95,27 @@ pub record Stays (W : World) (s : State) (x : ℕ) : Type 0 where
   pub label : labelOf W s x ≡ W .plan .new
   pub notGone : NotGone s x
 
+-- it is retained so far: it stays, or was copied
+abbrev pub Retained : World → State → ℕ → Type 0
+Retained W s x = Stays W s x ⊎ Gone s x
+
+-- what is reached by references of objects that are retained
 abbrev pub Reach : World → State → ℕ → Type 0
-Reach W s x = Live (W .heap) (W .Obj) (W .Root) (Stays W s) x
+Reach W s x = Live (W .heap) (W .Obj) (W .Root) (Stays W s) (Retained W s) x
+
+-- a later state has the moves of an earlier one
+abbrev pub MovesUp : State → State → Type 0
+MovesUp s t = (m : Move) → List·Memᴰ m (s .moves) → List·Memᴰ m (t .moves)
+
+-- what stays, or else was copied, by one reading and by another
+pub or-gone : (s t : State) {Stay Stay′ : ℕ → Type 0} → ((x : ℕ) → Stay x → Stay′ x) → MovesUp s t → (x : ℕ)
+    → Stay x ⊎ Gone s x → Stay′ x ⊎ Gone t x
+or-gone s t f up x (inl q) = inl (f x q)
+or-gone s t f up x (inr (m, mem, e)) = inr (m, up m mem, e)
+
+pub reach-up : (W : World) (s t : State) → ((x : ℕ) → Stays W s x → Stays W t x) → MovesUp s t → {x : ℕ}
+    → Reach W s x → Reach W t x
+reach-up W s t f up = live-map f (or-gone s t f up)
 
 -- the pairing so far: the object at x before is retained, and stands at y
 pub data Kept (W : World) (s : State) (x y : ℕ) : Type 0 where
@@ -142,11 +164,12 @@ pub record Moved (W : World) (s : State) (m : Move) : Type 0 where
   pub below : pageOf W (m .to) ≡ s .pages .copy → m .to + sizeAt W (m .from) ≤ top (W .plan) (s .pages)
 
 -- it stays one in a later state: what it is of the object stays, and so is what it tells of place and copy to be shown
-pub moved-on : (W : World) (s t : State) (m : Move) → Moved W s m → ((x : ℕ) → Stays W s x → Stays W t x) → at (t .heap) (m .from) ≡ 2 * m .to
+pub moved-on : (W : World) (s t : State) (m : Move) → Moved W s m → ((x : ℕ) → Stays W s x → Stays W t x)
+    → MovesUp s t → at (t .heap) (m .from) ≡ 2 * m .to
     → labelOf W t (m .to) ≡ W .plan .new → (pageOf W (m .to) ≡ t .pages .copy → m .to + sizeAt W (m .from) ≤ top (W .plan) (t .pages)) → Moved W t m
-moved-on W s t m M stays planted label below = record {
+moved-on W s t m M stays up planted label below = record {
   object = M .object;
-  reached = live-map stays (M .reached);
+  reached = reach-up W s t stays up (M .reached);
   old = M .old;
   planted = planted;
   fresh = M .fresh;
