@@ -359,10 +359,13 @@ static void one_a_page(uint32_t first, uint32_t second, uint32_t third, int stay
   expect(clause);
 }
 
-/* 9 words may take three pages, 8 words one; words on a hinted page are not among them. By pages, three might take five. */
+/* Q-3: 9 words may take three pages, 8 words one; words on a hinted page are not among them. By pages, three might take five. And within the
+   bound no object has a page of its own that fits the page before. */
 static void more_than_the_bound(void)
 {
-  one_a_page(3, 3, 3, 0, NULL);
+  one_a_page(6, 3, 6, 0, NULL);
+  one_a_page(6, 3, 5, 0, "an object began a page though it fits the one before");
+  one_a_page(3, 3, 3, 0, "an object began a page though it fits the one before");
   one_a_page(2, 3, 3, 0, "more pages were taken than the bound");
   one_a_page(3, 3, 6, 1, NULL);
   one_a_page(3, 3, 3, 1, "more pages were taken than the bound");

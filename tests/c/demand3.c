@@ -343,11 +343,28 @@ static uint32_t most_taken(const search *s)
   return words == 0 ? 0 : 1 + words / (s->before->page + 1) * 2;
 }
 
+/* An object begins a page of copies only if it did not fit the page of copies before it, the next lower one. */
+static const char *spread(const search *s)
+{
+  const demand3_memory *b = s->before, *a = s->after;
+  size_t page, at, left = 0; /* words left on the last page of copies */
+  for (page = 1; page < a->pages; page++)
+    if (b->labels[page] == 0 && a->labels[page] != 0) {
+      if (size_at(a, page * a->page) <= left)
+        return "an object began a page though it fits the one before";
+      left = a->page;
+      for (at = page * a->page; at < (page + 1) * a->page; at++)
+        left -= s->starts_after[at] ? size_at(a, at) : 0;
+    }
+  return NULL;
+}
+
 /* Pages in use after, the counts, and what else document 01 says of the state that a collection leaves. */
 static const char *pages_and_counts(search *s, const uint32_t counts[6])
 {
   const demand3_memory *b = s->before, *a = s->after;
   uint32_t hinted = 0, taken = 0, objects = 0, words = 0;
+  const char *why;
   size_t page, at;
   for (page = 1; page < a->pages; page++) {
     int copies = 0;
@@ -372,11 +389,11 @@ static const char *pages_and_counts(search *s, const uint32_t counts[6])
   }
   if (taken > most_taken(s))
     return "more pages were taken than the bound";
-  if (s->found.pages != 0) {
-    const char *why = kept_for_room(s);
-    if (why != NULL)
-      return why;
-  }
+  why = spread(s);
+  if (why == NULL && s->found.pages != 0)
+    why = kept_for_room(s);
+  if (why != NULL)
+    return why;
   if (counts[0] != hinted)
     return "the count of pages hinted is wrong";
   if (counts[1] != taken)

@@ -1,6 +1,6 @@
 -- Which collectors demand 3 rejects that keep pages needlessly. First in general: one that keeps a page beside a free
--- one, and one that keeps a page from which nothing is reached. Then four on small heaps: what each leaves there is
--- faithful by no pairing and by no lists of pages and fillers.
+-- one, one that keeps a page from which nothing is reached, and one that spreads copies over more pages than they fill.
+-- Then four on small heaps: what each leaves there is faithful by no pairing and by no lists of pages and fillers.
 use mathlib.Core.Path.{_≡_, refl, sym, ap, _∙_, subst}
 use mathlib.Core.Logic.{_≢_, _⊎_, inl, inr}
 use mathlib.Core.List.{List, [], _∷_, _++_, List·Memᴰ, List·Memᴰ·cases-cons, List·Memᴰ·eq-of-singleton, List·Memᴰ·not-nil}
@@ -17,7 +17,7 @@ use Rattle.rules.specs.Sound.{IsObject, refs}
 use Rattle.rules.specs.Collection.{Collection}
 use Rattle.rules.specs.Collect.{CollectOutcome}
 use Rattle.rules.specs.Demands.{Hinted, OnHinted, ReachedBy, staying, byRoot, byReference, Reached, Becomes}
-use Rattle.rules.specs.Demands.{HoldsCopy, OnHintedOrKept, Moved, ReachedKeeping, Faithful}
+use Rattle.rules.specs.Demands.{HoldsCopy, OnHintedOrKept, Moved, ReachedKeeping, Faithful, Took, FindsPages}
 use Rattle.theory.specs.Sums.{gather, mem-at, member-length}
 use Rattle.promises.specs.Unkept.{reached-map}
 use Rattle.promises.specs.Listed.{Each, objects, each-object}
@@ -39,6 +39,13 @@ module _ (m : Lent) (roots hints : List ℕ) (o : CollectOutcome) (c : Collectio
       hinted : (z : ℕ) → OnHintedOrKept m hints [] Pairs z → OnHinted m hints z
       hinted z (inl h) = h
       hinted z (inr q) = absurd (List·Memᴰ·not-nil (q .page))
+
+-- it begins page h with an object that fits what is left of page g, the next lower page taken
+pub spreads-copies : (m : Lent) (hints : List ℕ) (o : CollectOutcome) (taken : List ℕ) → FindsPages m hints o taken
+    → (g h : ℕ) → Took m o g → Took m o h → g < h → ((j : ℕ) → g < j → j < h → Took m o j → ⊥)
+    → stop (o .lent) g + sizeOf (at (o .lent .heap) (h * m .rec .page)) ≤ g * o .lent .rec .page + o .lent .rec .page
+    → ⊥
+spreads-copies m hints o taken F g h tg th lt none fits = omega (arith, F .stacked g h tg th lt none)
 
 -- ---- on small heaps: pages of 8 words, page 3 free; root cells hold 8 and 16; no hints
 
@@ -238,8 +245,8 @@ module _ (c : Collection) (Pairs : ℕ → ℕ → Type 0) (F : Faithful roomy c
       (over 3 (record { low = omega arith; high = omega arith; free = refl; above = λ h a b. absurd (omega arith) }))
 
 -- ---- Copies on after a page was kept. Page 1 has an object of 5 words, in a root cell, and one of 2; to that only the one of
--- 8 on page 2 refers, which is in a root cell. The first goes to 24, page 2 is kept, and then the one of 2 words goes to 29,
--- though it is reached from the kept page alone (`NoRoom .moved`).
+-- 8 on page 2 refers, which is in a root cell. The first goes to 24, page 2 is kept, and then the one of 2 words goes
+-- to 29, though it is reached from the kept page alone (`NoRoom .moved`).
 
 unfoldable pub chained : Lent
 chained = memory 1 (0 ∷ 1 ∷ 1 ∷ 0 ∷ [])

@@ -257,6 +257,9 @@ pub record FindsPages (m : Lent) (hints : List ℕ) (o : CollectOutcome) (taken 
   pub took : (g : ℕ) → List·Memᴰ g taken → Took m o g
   pub all : (g : ℕ) → Took m o g → List·Memᴰ g taken
   pub distinct : Once taken
+  -- copies are stacked: the object that begins a page did not fit what is left of the next lower page taken
+  pub stacked : (g h : ℕ) → Took m o g → Took m o h → g < h → ((j : ℕ) → g < j → j < h → Took m o j → ⊥)
+      → Overfills (o .lent) g (sizeOf (at (o .lent .heap) (h * m .rec .page)))
   pub count : o .taken ≡ length taken
   pub few : length taken ≤ neededFor m hints
 

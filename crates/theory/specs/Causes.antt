@@ -4,7 +4,7 @@
 use mathlib.Core.Path.{_≡_, refl, sym, ap, _∙_, subst}
 use mathlib.Core.Logic.{_≢_, _⊎_, inl, inr}
 use mathlib.Core.Bool.{Bool, true, false, cond}
-use mathlib.Core.List.{List, [], _∷_, _++_, List·Memᴰ, List·Memᴰ·append-cases, List·Memᴰ·eq-of-singleton}
+use mathlib.Core.List.{List, [], _∷_, _++_, List·Memᴰ}
 use Prim.Native.Nat.{ℕ, _+_, _≤_, _<_}
 use native.Mathlib.Nat.{le-refl}
 use native.Mathlib.Decide.{ℕ-discrete, decLt}
@@ -18,9 +18,9 @@ use Rattle.laws.specs.FreePages.{none-free}
 use Rattle.theory.specs.KeptPages.{kept-none, kept-length}
 use Rattle.theory.specs.World.{pageOf, labelWas, sizeAt, World, Live, live-map, Gone, Stays, Reach, MovesUp, or-gone, Inv}
 use Rattle.theory.specs.Places.{old-new-kept}
-use Rattle.theory.specs.Put.{put-moves}
+use Rattle.theory.specs.Put.{mem-split}
 use Rattle.theory.specs.Keep.{listed, label-there, stays-up, free-else}
-use Rattle.theory.specs.Forward.{Due, due-not-gone, Avail, Within, cannot-says, How, idle, copies, keeps, roomFor, copied, copy-ext, keeping}
+use Rattle.theory.specs.Forward.{Due, due-not-gone, Avail, Within, cannot-says, How, idle, copies, keeps, roomFor, copied, open-room, copy-ext, keeping}
 
 -- object x stays, on a page that was hinted or on one of the first i that are kept
 pub record StaysBy (W : World) (s : State) (i x : ℕ) : Type 0 where
@@ -92,13 +92,15 @@ module _ (W : World) (s : State) (I : Inv W s) (C : Causes W s) (x : ℕ) (D : D
   copy-up = by-up W s (copied W s x) 0 (λ a q. record { stays = copy-ext W s I x D av .stays a (q .stays); page = q .page }) (copy-ext W s I x D av .moves)
 
   copy-causes : Causes W (copied W s x)
-  unfolding put
   copy-causes = causes-none W (copied W s x) (copied-kept W s x ∙ av .unkept)
-      (λ j mem. copy-up (go j (List·Memᴰ·append-cases (s .moves) (subst (List·Memᴰ j) (put-moves W (sizeAt W x) x (roomFor W s x .pages) (roomFor W s x)) mem))))
+      (λ j mem. copy-up (go j (mem-split W (roomFor W s x) x (open-room W s I x D av .ready) j mem)))
     where
-      go : (j : Move) → List·Memᴰ j (s .moves) ⊎ List·Memᴰ j ((record { from = x; to = top (W .plan) (roomFor W s x .pages) }) ∷ []) → ReachedBy W s 0 (j .from)
+      go : (j : Move) → List·Memᴰ j (s .moves) ⊎ (j ≡ record { from = x; to = top (W .plan) (roomFor W s x .pages) })
+          → ReachedBy W s 0 (j .from)
       go j (inl mem) = C .moved j mem
-      go j (inr mem) = rw (ap (λ (k : Move). k .from) (List·Memᴰ·eq-of-singleton mem)) (subst (λ (i : ℕ). ReachedBy W s i x) none-known (reach-by W s I (D .reached)))
+      go j (inr e) =
+          let now : ReachedBy W s 0 x = subst (λ (i : ℕ). ReachedBy W s i x) none-known (reach-by W s I (D .reached)) in
+          subst (ReachedBy W s 0) (sym (ap (λ (k : Move). k .from) e)) now
 
 -- ---- a page kept
 

@@ -28,6 +28,7 @@ use Rattle.theory.specs.KeptPages.{not-kept}
 use Rattle.theory.specs.World.{World, Kept, stayed, went, Place, home, away, Inv}
 use Rattle.theory.specs.Packs.{froms, Packs}
 use Rattle.theory.specs.Upward.{none-upward}
+use Rattle.theory.specs.Stacked.{stacked-none}
 use Rattle.theory.specs.Causes.{causes-none}
 use Rattle.theory.specs.Tile.{Next, another, blank, Tiled}
 use Rattle.theory.specs.Good.{Good}
@@ -235,6 +236,7 @@ module _ (m : Lent) (roots hints : List ℕ) (A : Ready m roots) where
     tiled = first-tiled;
     lined = record { queued = H .queued; last = λ u h. absurd (omega (arith, H .fill)) };
     upward = none-upward world p (H .copy) refl;
+    stacked = stacked-none world s (H .copy);
     causes = causes-none world s (H .kept) (λ j mem. absurd (List·Memᴰ·not-nil mem));
     filled = omega (arith, H .fill, page-pos m (S .valid));
   }

@@ -23,6 +23,7 @@ use Rattle.theory.specs.Forward.{Due, Avail, roomFor, copied, keeping, H
 use Rattle.theory.specs.Packs.{Packs, packs-within, packs-how}
 use Rattle.theory.specs.ForwardSafe.{forward-safe}
 use Rattle.theory.specs.Upward.{Upward, copy-upward, keep-upward}
+use Rattle.theory.specs.Stacked.{Stacked, stacked-same, copy-stacked}
 use Rattle.theory.specs.Causes.{Causes, causes-how}
 use Rattle.theory.specs.Tile.{Tiled, Lined, take-tiled, take-lined, put-tiled, put-lined, keep-tiled, keep-lined}
 
@@ -32,6 +33,7 @@ pub record Good (W : World) (s : State) : Type 0 where
   pub tiled : Tiled W s
   pub lined : Lined W s
   pub upward : Upward W (s .pages)
+  pub stacked : Stacked W s
   pub causes : Causes W s
   pub filled : 0 < s .pages .fill
 
@@ -144,6 +146,7 @@ module _ (W : World) (s : State) (G : Good W s) (x : ℕ) (D : Due W s x) (av : 
     tiled = put-tiled W t x R (room .tiled);
     lined = put-lined W t x R (room .lined);
     upward = copy-upward W s (G .inv) x av (G .upward);
+    stacked = copy-stacked W s (G .inv) (G .upward) (G .stacked) (G .filled) x D av;
     causes = causes-how W s x t′ (G .inv) (packs-within W s (G .packs)) (G .causes) (copies D av refl);
     filled = omega (arith, some-words W x (D .object));
   }
@@ -206,6 +209,7 @@ module _ (W : World) (s : State) (G : Good W s) (x : ℕ) (D : Due W s x) (cant 
     tiled = keep-tiled W s (G .inv) x (D .object) (D .old) within (G .tiled);
     lined = keep-lined W s (G .inv) x (D .object) (D .old) within (G .lined);
     upward = keep-upward W s (G .inv) within x D (G .upward);
+    stacked = stacked-same W s k′ refl refl refl (G .stacked);
     causes = causes-how W s x k′ (G .inv) within (G .causes) (keeps D cant refl);
     filled = G .filled;
   }

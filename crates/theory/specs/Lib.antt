@@ -13,6 +13,7 @@ pub mod Forward
 pub mod Packs
 pub mod ForwardSafe
 pub mod Upward
+pub mod Stacked
 pub mod Causes
 pub mod Store
 pub mod Tile

@@ -142,7 +142,7 @@ module _ (W : World) (s : State) (x : ℕ) (R : Ready W s x) where
 
   -- ---- the log, and what stands where
 
-  mem-split : (m : Move) → List·Memᴰ m (s′ .moves) → List·Memᴰ m (s .moves) ⊎ (m ≡ new)
+  pub mem-split : (m : Move) → List·Memᴰ m (s′ .moves) → List·Memᴰ m (s .moves) ⊎ (m ≡ new)
   mem-split m h = go (List·Memᴰ·append-cases (s .moves) (subst (List·Memᴰ m) (put-moves W n x (s .pages) s) h))
     where
       go : List·Memᴰ m (s .moves) ⊎ List·Memᴰ m (new ∷ []) → List·Memᴰ m (s .moves) ⊎ (m ≡ new)

@@ -13,6 +13,7 @@ use Rattle.theory.specs.World.{Swept, refsAt, World, ref, Retained, Reac
 use Rattle.theory.specs.Places.{kept-obj, kept-label}
 use Rattle.theory.specs.Forward.{idle, forward-self}
 use Rattle.theory.specs.Packs.{Packs}
+use Rattle.theory.specs.Stacked.{stacked-same}
 use Rattle.theory.specs.Causes.{StaysBy, by-up, Cause, Causes}
 use Rattle.theory.specs.ForwardSafe.{forward-safe}
 use Rattle.theory.specs.Store.{stored, Slot, stays-up, kept-up, kept-back, slot-swept, swept-up, store-inv}
@@ -105,6 +106,7 @@ module _ (W : World) (s : State) (G : Good W s) (x y i : ℕ) (K : Kept W s x y)
     tiled = store-tiled W t (reference-went .good .inv) x y i (f .value) slot (reference-went .good .tiled);
     lined = store-lined W t (reference-went .good .inv) x y i (f .value) slot (reference-went .good .lined);
     upward = reference-went .good .upward;
+    stacked = stacked-same W t _ refl refl refl (reference-went .good .stacked);
     causes = store-causes W t (reference-went .good .inv) x y i (f .value) slot (reference-went .good .causes);
     filled = reference-went .good .filled;
   }

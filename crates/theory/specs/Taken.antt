@@ -4,23 +4,29 @@
 use mathlib.Core.Path.{_≡_, refl, sym, ap, _∙_}
 use mathlib.Core.Logic.{_⊎_, inl, inr}
 use mathlib.Core.List.{List, [], List·Memᴰ, Memᴰ·cast}
-use Prim.Native.Nat.{ℕ, _+_, _-_, _≤_, _<_}
+use Prim.Native.Nat.{ℕ, _+_, _*_, _-_, _/_, _≤_, _<_}
 use native.Mathlib.Nat.{le-trans}
 use native.Mathlib.Decide.{decLt}
 use native.Mathlib.Omega.{arith}
 use lib.ListN.{length, drop, length-drop}
 use lib.Seq.{getD-take, getD-drop, length-take-le}
 use Rattle.rules.specs.Ranges.{at}
+use Rattle.rules.specs.Header.{sizeOf}
 use Rattle.rules.specs.Pages.{otherLabel}
+use Rattle.rules.specs.Walk.{stop}
 use Rattle.rules.specs.Lent.{Lent}
 use Rattle.rules.specs.Sound.{InUse, Sound}
-use Rattle.rules.specs.Collection.{logged, State, planOf, unkeptPages, keptPages, collection}
-use Rattle.rules.specs.Collect.{neededFor, acceptedCollect}
-use Rattle.rules.specs.Demands.{LastFree, FindsPages}
+use Rattle.rules.specs.Collection.{logged, Move, State, planOf, unkeptPages, keptPages, collection}
+use Rattle.rules.specs.Collect.{CollectOutcome, neededFor, acceptedCollect}
+use Rattle.rules.specs.Demands.{LastFree, Overfills, Took, FindsPages}
+use Rattle.laws.specs.Pages.{first-on-page}
+use Rattle.laws.specs.Walk.{size, page-steps, met-below}
+use Rattle.laws.specs.Objects.{page-pos}
 use Rattle.laws.specs.FreePages.{freePages}
 use Rattle.theory.specs.Sums.{mem-at, at-mem}
 use Rattle.theory.specs.KeptPages.{kept-none, kept-length, kept-at}
-use Rattle.theory.specs.World.{World, LabelledOrKept}
+use Rattle.theory.specs.World.{World, went, Place, home, away, LabelledOrKept}
+use Rattle.theory.specs.Stacked.{NextFree}
 use Rattle.theory.specs.Packs.{packs-within, packs-few}
 use Rattle.theory.specs.Good.{Grow, grow-trans}
 use Rattle.laws.specs.Collect.{Ready}
@@ -28,7 +34,7 @@ use Rattle.theory.specs.SoundHeap.{other≢0, other≢label, words-are}
 use Rattle.laws.specs.Valid.{label-pos}
 use Rattle.theory.specs.FirstState.{p as pagesOf, s as firstOf, H, world, labels-length, used-kind, free-stays, was-free as first-free, free-same-pages}
 use Rattle.theory.specs.Run.{W as worldOf, r as rootedOf, t as sweptOf, roots-done, all-done}
-use Rattle.theory.specs.After.{m′ as lentOf, inv, tiled, new-in-use, in-use-new}
+use Rattle.theory.specs.After.{m′ as lentOf, inv, tiled, first-place, kept-object, kept-header, new-in-use, in-use-new}
 
 module _ (m : Lent) (roots hints : List ℕ) (A : Ready m roots) where
   abbrev S : Sound m
@@ -42,6 +48,9 @@ module _ (m : Lent) (roots hints : List ℕ) (A : Ready m roots) where
 
   abbrev new : ℕ
   new = otherLabel (m .rec .label)
+
+  abbrev told : CollectOutcome
+  told = acceptedCollect (collection logged m roots hints)
 
   -- the queue after the hints is a prefix of the queue at the end
   abbrev before : List ℕ
@@ -166,7 +175,61 @@ module _ (m : Lent) (roots hints : List ℕ) (A : Ready m roots) where
           here : at taken (j - length before) ≡ g
           here = place (j - length before) inside ∙ ap (at queue) (omega (arith, behind)) ∙ q
 
-  pub finds : FindsPages m hints (acceptedCollect (collection logged m roots hints)) taken
+  -- a page that was free and has the new label comes next behind another
+  stacked : (g h : ℕ) → Took m told g → Took m told h → g < h → ((j : ℕ) → g < j → j < h → Took m told j → ⊥)
+      → Overfills (lentOf m roots hints A) g (size (lentOf m roots hints A .heap) (h * m .rec .page))
+  unfolding world planOf collection acceptedCollect
+  stacked g h tg th lt none = go (first-place m roots hints A h new-h .0) (first-place m roots hints A h new-h .1)
+    where
+      new-h : at (s .pages .labels) h ≡ new
+      new-h = in-use-new m roots hints A h (th .inUse)
+
+      free-h : at (W .labels) h ≡ 0
+      free-h = free-stays m roots hints A h (th .free)
+
+      -- no page behind the copy page is taken
+      upto : h ≤ s .pages .copy
+      upto = by (decLt (s .pages .copy) h)
+        where
+          by : Dec (s .pages .copy < h) → h ≤ s .pages .copy
+          by (no n) = omega arith
+          by (yes l) = absurd (W .new≢0 (sym new-h ∙ all-done m roots hints A .good .upward .behind h l free-h))
+
+      next : NextFree W g h
+      next = record { low = tg .inUse .low; less = lt; free = free-stays m roots hints A g (tg .free); none = λ j a b e. between j a b e (inv m roots hints A .free j e) }
+        where
+          between : (j : ℕ) → g < j → j < h → at (W .labels) j ≡ 0
+              → (at (s .pages .labels) j ≡ 0) ⊎ (at (s .pages .labels) j ≡ new) → ⊥
+          between j a b e (inl z) = all-done m roots hints A .good .upward .upTo j (omega (arith, tg .inUse .low)) (omega (arith, upto)) z
+          between j a b e (inr z) = none j a b (record { free = first-free m roots hints A j e; inUse = new-in-use m roots hints A j z })
+
+      -- a copy ends where its object does, and before the walk's stop
+      late : (k : Move) → List·Memᴰ k (s .moves) → k .to ≡ h * m .rec .page
+          → Overfills (lentOf m roots hints A) g (size (lentOf m roots hints A .heap) (h * m .rec .page))
+      late k mem e =
+          let l = all-done m roots hints A .good .stacked .begins g h next upto k mem e in
+          let j = l .move in
+          let copy : (i : Move) → List·Memᴰ i (s .moves) → size (lentOf m roots hints A .heap) (i .to) ≡ size (m .heap) (i .from) =
+          λ i q. ap sizeOf (kept-header m roots hints A (i .from) (i .to) (went i q refl refl)) in
+          let ob = kept-object m roots hints A (j .from) (j .to) (went j (l .listed) refl refl) in
+          let end = met-below (page-steps (lentOf m roots hints A) (j .to / m .rec .page)) (j .to) (ob .met) in
+          let end′ : j .to + size (lentOf m roots hints A .heap) (j .to) ≤ stop (lentOf m roots hints A) g = rw (l .page) at end in
+          let first : size (lentOf m roots hints A .heap) (h * m .rec .page) ≡ size (m .heap) (k .from) = ap (size (lentOf m roots hints A .heap)) (sym e) ∙ copy k mem in
+          omega (arith, l .late, copy j (l .listed))
+
+      go : (x : ℕ) → Place W s x (h * m .rec .page)
+          → Overfills (lentOf m roots hints A) g (size (lentOf m roots hints A .heap) (h * m .rec .page))
+      go x (away k mem ex ey) = late k mem (sym ey)
+      go x (home ob e) = absurd (used (W .kind x ob))
+        where
+          page : x / m .rec .page ≡ h
+          page = ap (λ (a : ℕ). a / m .rec .page) (sym e) ∙ first-on-page (page-pos m (S .valid)) h
+
+          used : (at (W .labels) (x / m .rec .page) ≡ m .rec .label) ⊎ (at (W .labels) (x / m .rec .page) ≡ new) → ⊥
+          used (inl q) = W .old≢0 (sym q ∙ ap (at (W .labels)) page ∙ free-h)
+          used (inr q) = W .new≢0 (sym q ∙ ap (at (W .labels)) page ∙ free-h)
+
+  pub finds : FindsPages m hints told taken
   unfolding collection acceptedCollect planOf
   finds = record {
     took = λ g mem. record { free = let (j, lt, e) = mem-at taken g mem in ap (at (m .labels)) (sym e) ∙ was-free j lt; inUse = taken-in-use g mem };
@@ -175,6 +238,7 @@ module _ (m : Lent) (roots hints : List ℕ) (A : Ready m roots) where
         let z : length before + i ≡ length before + j =
         all-done m roots hints A .good .lined .queued .once (length before + i) (length before + j) (place-inside i hi) (place-inside j hj) (sym (place i hi) ∙ e ∙ place j hj) in
         omega arith;
+    stacked = stacked;
     count = refl;
     few = taken-words;
   }

@@ -31,23 +31,23 @@ module _ (W : World) (s : State) (I : Inv W s) (unkept : s .pages .kept ≡ 0)
   abbrev g : ℕ
   g = lowestFree (s .pages .labels) (W .plan .lo) (W .plan .hi)
 
+  -- it stands behind the copy page before, up to which none was free
+  pub take-past : Upward W (s .pages) → s .pages .copy < g
+  take-past U = go (decLt (s .pages .copy) g)
+    where
+      go : Dec (s .pages .copy < g) → s .pages .copy < g
+      go (yes h) = h
+      go (no n) = absurd (U .upTo g (L .low) (omega arith) (L .free))
+
   take-upward : Upward W (s .pages) → Upward W (takePage (W .plan) (s .pages))
   unfolding takePage
   take-upward U = record {
     upTo = λ h a b. up-to h a b (ℕ-discrete h g);
-    behind = λ h a e. else h (omega arith) ∙ U .behind h (omega (arith, past)) e;
+    behind = λ h a e. else h (omega arith) ∙ U .behind h (omega (arith, take-past U)) e;
   }
     where
       else : (h : ℕ) → h ≢ g → at (takePage (W .plan) (s .pages) .labels) h ≡ at (s .pages .labels) h
       else h n = getD-set-other (s .pages .labels) g h (W .plan .new) 0 n
-
-      -- it stands behind the copy page before, up to which none was free
-      past : s .pages .copy < g
-      past = go (decLt (s .pages .copy) g)
-        where
-          go : Dec (s .pages .copy < g) → s .pages .copy < g
-          go (yes h) = h
-          go (no n) = absurd (U .upTo g (L .low) (omega arith) (L .free))
 
       up-to : (h : ℕ) → W .plan .lo ≤ h → h ≤ g → Dec (h ≡ g) → at (takePage (W .plan) (s .pages) .labels) h ≢ 0
       up-to h a b (yes q) z =
