@@ -74,7 +74,7 @@ unfoldable scattered : List ℕ
 scattered = 24 ∷ 32 ∷ 40 ∷ []
 
 -- Q-6: P 8, T 4, page 3 is free. On page 1 an object of 4 words and one with a reference to it, on page 2 one of 5 words with
--- references to both
+-- references to both. The links hold something, which no answer depends on
 unfoldable crowded : Lent
 crowded = record {
   heap = 0 ∷ 0 ∷ 0 ∷ 0 ∷ 0 ∷ 0 ∷ 0 ∷ 0
@@ -82,7 +82,7 @@ crowded = record {
       ∷ headerOf 4 2 ∷ 8 ∷ 12 ∷ 1 ∷ 2 ∷ 0 ∷ 0 ∷ 0
       ∷ 0 ∷ 0 ∷ 0 ∷ 0 ∷ 0 ∷ 0 ∷ 0 ∷ 0 ∷ [];
   labels = 0 ∷ 1 ∷ 1 ∷ 0 ∷ [];
-  links = 0 ∷ 0 ∷ 0 ∷ 0 ∷ [];
+  links = 5 ∷ 6 ∷ 7 ∷ 8 ∷ [];
   rec = record { page = 8; pages = 4; label = 1; opened = 0; fill = 8 };
 }
 
@@ -167,6 +167,7 @@ record Examples : Type 0 where
   keeps-in-order : collection plainly crowded (8 ∷ 16 ∷ []) [] .kept ≡ 2 ∷ 1 ∷ []
   keeps-roots : relieved .roots ≡ 24 ∷ 16 ∷ []
   keeps-labels : relieved .lent .labels ≡ 0 ∷ 2 ∷ 2 ∷ 2 ∷ []
+  clears-links : relieved .lent .links ≡ 0 ∷ 0 ∷ 0 ∷ 0 ∷ []
   fills : drop 8 (take 16 (relieved .lent .heap)) ≡ headerOf 3 0 ∷ 0 ∷ 0 ∷ 0 ∷ headerOf 3 1 ∷ 24 ∷ 5 ∷ 6 ∷ []
   follows : drop 16 (take 21 (relieved .lent .heap)) ≡ headerOf 4 2 ∷ 24 ∷ 12 ∷ 1 ∷ 2 ∷ []
   relieved-sound : isSound (relieved .lent) ≡ true
@@ -244,6 +245,7 @@ examples = record {
   keeps-in-order = refl;
   keeps-roots = refl;
   keeps-labels = refl;
+  clears-links = refl;
   fills = refl;
   follows = refl;
   relieved-sound = refl;
