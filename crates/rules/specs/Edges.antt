@@ -8,23 +8,23 @@ use Prim.Native.Nat.{ℕ}
 use lib.Dec.{eqb}
 use borrow.Author.Tests.{eqb-true}
 use Rattle.rules.specs.Tests.{and-left, and-right}
-use Rattle.rules.specs.Ranges.{at, from, block, has, count, first}
-use Rattle.rules.specs.Header.{headerOf, sizeOf, refsOf, isHeader}
-use Rattle.rules.specs.Pages.{isPageSize, pageAtStart, isShape, pageNamed, pageNamedBefore, pagesOfHint, isFree, lowestFree, pagesUsed, pagesNeeded, pageNamedToC, pageNamedBeforeToC, pagesNeededToC}
-use Rattle.rules.specs.Lent.{Lent, isLaidOut, isLabel, isOpen, isValid}
-use Rattle.rules.specs.Walk.{walk, starts, isInUse, landing, found}
-use Rattle.rules.specs.Calls.{refused, inside, accepted, start, withObject, allocate, lookUp, load, store}
-use Rattle.rules.specs.Examples.{held, fresh, older}
+use Rattle.rules.specs.Ranges.{at}
+use Rattle.rules.specs.Header.{headerOf}
+use Rattle.rules.specs.Pages.{pagesOfHint, pageNamedToC, pageNamedBeforeToC, pagesNeededToC}
+use Rattle.rules.specs.Lent.{Lent}
+use Rattle.rules.specs.Calls.{start, allocate, lookUp, load, store}
+use Rattle.rules.specs.Unfolded.{theRules}
+use Rattle.rules.specs.Heaps.{held, fresh, older}
 
 -- P 8, T 6, so that N is 5, with k pages in use, each full
-unfoldable pub used1 : Lent
+abbrev pub used1 : Lent
 used1 = allocate fresh 7 0 .lent
 
-unfoldable pub used2 : Lent
+abbrev pub used2 : Lent
 used2 = allocate used1 7 0 .lent
 
 -- Q-5: T 3 under the default
-unfoldable pub default : Lent
+abbrev pub default : Lent
 default = start (held 64 3) 0 3 .lent
 
 -- a row: what is asked, and the answer
@@ -76,7 +76,7 @@ hold [] = true
 hold (e ∷ es) = eqb (e .asked) (e .answer) && hold es
 
 computed : hold edges ≡ true
-unfolding hold edges used1 used2 default older fresh from block has count first headerOf isPageSize pageAtStart isShape pageNamed pageNamedBefore pagesOfHint isFree lowestFree pagesUsed pagesNeeded pageNamedToC pageNamedBeforeToC pagesNeededToC isLaidOut isLabel isOpen isValid sizeOf refsOf isHeader walk starts isInUse landing found refused inside accepted start withObject allocate lookUp load store
+unfolding theRules hold edges
 computed = refl
 
 row : (es : List Edge) → hold es ≡ true → (e : Edge) → List·Memᴰ e es → e .asked ≡ e .answer

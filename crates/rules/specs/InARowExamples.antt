@@ -5,25 +5,15 @@ use mathlib.Core.Logic.{_⊎_, inl, inr}
 use mathlib.Core.List.{List, [], _∷_, _++_, List·Memᴰ, List·Memᴰ·head, List·Memᴰ·tail, List·Memᴰ·cases-cons, List·Memᴰ·not-nil, List·Memᴰ·eq-of-singleton}
 use Prim.Native.Nat.{ℕ}
 use native.Mathlib.Omega.{arith}
-use lib.ListN.{take, replicate}
-use Rattle.rules.specs.Ranges.{at, from, block, each, has, count, sum, first}
-use Rattle.rules.specs.Header.{headerOf, sizeOf, refsOf, isHeader}
-use Rattle.rules.specs.Pages.{isPageSize, isShape, pageNamed, pageNamedBefore, pagesOfHint, pagesNamed, isFree, lowestFree, otherLabel}
-use Rattle.rules.specs.Lent.{Lent, isLaidOut, isLabel, isOpen, isValid}
-use Rattle.rules.specs.Walk.{walk, behind, starts, stop, isInUse, isStart, isReference, landing, found}
-use Rattle.rules.specs.Sound.{isBlank, refsGood, isUsedSound, isPageSound, isFillSound, isSound}
-use Rattle.rules.specs.Collection.{hintPage, hintPages, takePage, withRoom, top, put, copyObject, canCopy, keepPage, keepObject, forward, forwardRoots, sweepReference, sweepReferences, isLeft, sizeAtCopy, sweepPage, sweepQueue, freedLabels, freedHeap, filler, fillPlace, fillPage, fillPages, planOf, begun, afterHints, afterRoots, afterSweep, unkeptPages, keptPages, filled, collection}
-use Rattle.rules.specs.Collect.{refusalOfCollect, CollectOutcome, refusedCollect, acceptedCollect, collect}
+use Rattle.rules.specs.Ranges.{at}
+use Rattle.rules.specs.Header.{headerOf}
+use Rattle.rules.specs.Pages.{pageNamed, pageNamedBefore, pagesOfHint, pagesNamed}
+use Rattle.rules.specs.Lent.{Lent}
+use Rattle.rules.specs.Collect.{CollectOutcome, collect}
+use Rattle.rules.specs.Unfolded.{theRules}
+use Rattle.rules.specs.Heaps.{page, memory}
 use Rattle.rules.specs.Demands.{Took}
 use Rattle.rules.specs.InARow.{NamesNoneTaken, InARow, SameNumbers}
-
--- a page with these words, and blank behind them
-abbrev page : List ℕ → List ℕ
-page words = take 8 (words ++ replicate 8 0)
-
--- T pages with these labels and words, and no open page
-abbrev memory : ℕ → List ℕ → List ℕ → Lent
-memory T labels heap = record { heap = heap; labels = labels; links = replicate T 0; rec = record { page = 8; pages = T; label = 1; opened = 0; fill = 8 } }
 
 -- the collection after a, "at once with the resulting roots and the same hints"
 abbrev next : CollectOutcome → List ℕ → CollectOutcome
@@ -32,7 +22,7 @@ next a hints = collect (a .lent) (a .roots) hints
 -- All hold. On page 1 an object of 3 words refers to one of 4 on page 3; the hint names page 2, with one of 5. The first two go to page 4, and
 -- then to page 1
 unfoldable leg : Lent
-leg = memory 6 (0 ∷ 1 ∷ 1 ∷ 1 ∷ 0 ∷ 0 ∷ [])
+leg = memory (0 ∷ 1 ∷ 1 ∷ 1 ∷ 0 ∷ 0 ∷ [])
     (page [] ++ page (headerOf 2 1 ∷ 24 ∷ 5 ∷ []) ++ page (headerOf 4 0 ∷ 6 ∷ 7 ∷ 8 ∷ 9 ∷ []) ++ page (headerOf 3 0 ∷ 1 ∷ 2 ∷ 3 ∷ []) ++ page [] ++ page [])
 
 unfoldable leg1 : CollectOutcome
@@ -45,7 +35,7 @@ leg2 = next leg1 (17 ∷ [])
 -- The first is copied to page 4, the one of 5 words keeps page 2, and so the one of 3 keeps page 1, where the first leaves a filler.
 -- Then pages 3 and 5 are free, and all three are copied there; the filler is not
 unfoldable crowd : Lent
-crowd = memory 6 (0 ∷ 1 ∷ 1 ∷ 1 ∷ 0 ∷ 1 ∷ [])
+crowd = memory (0 ∷ 1 ∷ 1 ∷ 1 ∷ 0 ∷ 1 ∷ [])
     (page [] ++ page (headerOf 3 0 ∷ 1 ∷ 2 ∷ 3 ∷ headerOf 2 0 ∷ 4 ∷ 5 ∷ []) ++ page (headerOf 4 0 ∷ 6 ∷ 7 ∷ 8 ∷ 9 ∷ []) ++ page (headerOf 4 0 ∷ []) ++ page [] ++ page (headerOf 7 0 ∷ []))
 
 unfoldable crowd1 : CollectOutcome
@@ -56,7 +46,7 @@ crowd2 = next crowd1 []
 
 -- A hint names a page that the first takes: 24 is on page 3, and the word before it on page 2. The object goes there, and then stays
 unfoldable past : Lent
-past = memory 4 (0 ∷ 1 ∷ 0 ∷ 0 ∷ []) (page [] ++ page (headerOf 4 0 ∷ 1 ∷ 2 ∷ 3 ∷ 4 ∷ []) ++ page [] ++ page [])
+past = memory (0 ∷ 1 ∷ 0 ∷ 0 ∷ []) (page [] ++ page (headerOf 4 0 ∷ 1 ∷ 2 ∷ 3 ∷ 4 ∷ []) ++ page [] ++ page [])
 
 unfoldable past1 : CollectOutcome
 past1 = collect past (8 ∷ []) (24 ∷ [])
@@ -66,7 +56,7 @@ past2 = next past1 (24 ∷ [])
 
 -- The second keeps a page. Objects of 5, 3, 5 and 3 words fill pages 1 and 2. As 5, 5, 3, 3 they take three pages, and leave two
 unfoldable full : Lent
-full = memory 6 (0 ∷ 1 ∷ 1 ∷ 0 ∷ 0 ∷ 0 ∷ [])
+full = memory (0 ∷ 1 ∷ 1 ∷ 0 ∷ 0 ∷ 0 ∷ [])
     (page [] ++ page (headerOf 4 0 ∷ 1 ∷ 1 ∷ 1 ∷ 1 ∷ headerOf 2 0 ∷ 2 ∷ 2 ∷ []) ++ page (headerOf 4 0 ∷ 3 ∷ 3 ∷ 3 ∷ 3 ∷ headerOf 2 0 ∷ 4 ∷ 4 ∷ []) ++ page [] ++ page [] ++ page [])
 
 unfoldable full1 : CollectOutcome
@@ -96,7 +86,7 @@ record Tried : Type 0 where
   past-record : (at (past1 .lent .labels) 2 ≡ past1 .lent .rec .label) × (past1 .lent .rec .pages ≡ 4)
 
 tried : Tried
-unfolding from block each has count sum first headerOf sizeOf refsOf isHeader isPageSize isShape pageNamed pageNamedBefore pagesOfHint pagesNamed isFree lowestFree otherLabel isLaidOut isLabel isOpen isValid walk behind starts stop isInUse isStart isReference landing found isBlank refsGood isUsedSound isPageSound isFillSound isSound hintPage hintPages takePage withRoom top put copyObject canCopy keepPage keepObject forward forwardRoots sweepReference sweepReferences isLeft sizeAtCopy sweepPage sweepQueue freedLabels freedHeap filler fillPlace fillPage fillPages planOf begun afterHints afterRoots afterSweep unkeptPages keptPages filled collection refusalOfCollect refusedCollect acceptedCollect collect leg leg1 leg2 crowd crowd1 crowd2 past past1 past2 full full1 full2
+unfolding theRules leg leg1 leg2 crowd crowd1 crowd2 past past1 past2 full full1 full2
 tried = record {
   met = record { first = refl; accepted = refl; kept = refl; second = refl; names = λ g k t. absurd (unnamed g k t); keptAgain = refl };
   same = record { hinted = refl; taken = refl; objects = refl; words = refl };
