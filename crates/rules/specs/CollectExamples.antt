@@ -2,18 +2,18 @@
 -- collection (document 01's edges, Q-1, Q-3, Q-6), which name what is seen from outside.
 use mathlib.Core.Path.{_≡_, refl}
 use mathlib.Core.Bool.{true}
-use mathlib.Core.List.{List, [], _∷_, _++_}
+use mathlib.Core.List.{List, [], _∷_, _++_, map}
 use Prim.Native.Nat.{ℕ}
 use lib.ListN.{take, drop, replicate}
 use Rattle.rules.specs.Ranges.{at}
 use Rattle.rules.specs.Header.{headerOf}
 use Rattle.rules.specs.Lent.{Lent, lent}
 use Rattle.rules.specs.Sound.{isSound}
-use Rattle.rules.specs.Calls.{start, allocate, store}
+use Rattle.rules.specs.Calls.{allocate, store}
 use Rattle.rules.specs.Collection.{plainly, collection}
 use Rattle.rules.specs.Collect.{pagesUnhinted, wordsUnhinted, neededFor, CollectOutcome, collectOutcome, collect}
 use Rattle.rules.specs.Unfolded.{theRules}
-use Rattle.rules.specs.Heaps.{control, held, fresh, page, memory, under}
+use Rattle.rules.specs.Heaps.{control, fresh, page, memory, under}
 use Rattle.rules.specs.Examples.{record8, roots8}
 
 -- ---- memory
@@ -22,24 +22,26 @@ use Rattle.rules.specs.Examples.{record8, roots8}
 abbrev itself : Lent
 itself = store (store (allocate fresh 2 1 .lent) 8 0 8 .lent) 8 1 8 .lent
 
--- page 1 is full, with a reference to an object on page 2
-abbrev across : Lent
-across = store (allocate (allocate fresh 7 1 .lent) 1 0 .lent) 8 0 16 .lent
+-- P 8, T 6. Page 1 is full, with a reference to an object of 2 words on page 2, which is open; behind that stands this word
+abbrev acrossWith : ℕ → Lent
+acrossWith w = lent (page [] ++ page (headerOf 7 1 ∷ 16 ∷ []) ++ page (headerOf 1 0 ∷ 0 ∷ w ∷ []) ++ replicate 24 0)
+    (0 ∷ 1 ∷ 1 ∷ 0 ∷ 0 ∷ 0 ∷ []) (replicate 6 7) (control 8 6 1 2 2)
 
--- the same with a word behind the object of page 2, and with a fill of 0 besides
+abbrev across : Lent
+across = acrossWith 0
+
+-- a word that must not be there, and a fill of 0 besides
 abbrev stray : Lent
-stray = lent (take 20 (across .heap) ++ (2 ∷ replicate 27 0)) (across .labels) (across .links) (across .rec)
+stray = acrossWith 2
 
 abbrev bad : Lent
 bad = under stray (control 8 6 1 2 0)
 
--- P 8, T 12: pages 1 and 2 are full, each with a reference to an object on page 3; word 16 is where the first ends and the
+-- P 8, T 5: pages 1 and 2 are full, each with a reference to an object on page 3; word 16 is where the first ends and the
 -- second begins
 abbrev boundary : Lent
-boundary =
-    let started = start (held 8 12) 8 12 .lent in
-    let made = allocate (allocate (allocate (allocate started 7 1 .lent) 7 1 .lent) 2 0 .lent) 2 0 .lent in
-    store (store made 8 0 24 .lent) 16 0 27 .lent
+boundary = memory (0 ∷ 1 ∷ 1 ∷ 1 ∷ 0 ∷ []) (page [] ++ page (headerOf 7 1 ∷ 24 ∷ []) ++ page (headerOf 7 1 ∷ 27 ∷ [])
+    ++ page (headerOf 2 0 ∷ 1 ∷ 2 ∷ headerOf 2 0 ∷ 3 ∷ 4 ∷ []) ++ page [])
 
 -- Q-3: objects of 4, 5 and 4 words, none of which fits behind the one before: each is copied to a page of its own. Two pages
 -- are free
@@ -105,9 +107,8 @@ record CollectExamples : Type 0 where
   -- Q-1: word 48, past the last page, keeps page 5 in place
   past-the-end : collect (record8 .lent) roots8 (48 ∷ 34 ∷ []) .hinted ≡ 2
   -- a word at a boundary keeps both pages, its own first: so what page 2 refers to is copied first
-  both : collect boundary [] (16 ∷ []) .lent .labels ≡ 0 ∷ 2 ∷ 2 ∷ 0 ∷ 2 ∷ 0 ∷ 0 ∷ 0 ∷ 0 ∷ 0 ∷ 0 ∷ 0 ∷ []
-  own-first : at (collect boundary [] (16 ∷ []) .lent .heap) 17 ≡ 32
-  then-before : at (collect boundary [] (16 ∷ []) .lent .heap) 9 ≡ 35
+  both : collect boundary [] (16 ∷ []) .lent .labels ≡ 0 ∷ 2 ∷ 2 ∷ 0 ∷ 2 ∷ []
+  own-first : map (at (collect boundary [] (16 ∷ []) .lent .heap)) (17 ∷ 9 ∷ []) ≡ 32 ∷ 35 ∷ []
   -- Q-3: with the 5 words hinted 8 are left: they need one page, where 2k' - 1 is three
   eight : (wordsUnhinted spread (33 ∷ []) ≡ 8) × (pagesUnhinted spread (33 ∷ []) ≡ 2) × (neededFor spread (33 ∷ []) ≡ 1)
   eight-taken : (collect spread scattered (33 ∷ []) .taken ≡ 1) × (collect spread scattered (33 ∷ []) .words ≡ 8)
@@ -148,7 +149,6 @@ collect-examples = record {
   past-the-end = refl;
   both = refl;
   own-first = refl;
-  then-before = refl;
   eight = (refl, refl, refl);
   eight-taken = (refl, refl);
   nine = (refl, refl);
