@@ -1,2 +1,3 @@
 pub mod Lines
+pub mod Examples
 pub mod Put

@@ -1,26 +1,19 @@
 -- The definitions are tried: antt computes document 01's session, from its bytes to the bytes of its output (from record 9 on as Q-6
--- has it), and the ends of the input. Everything here is closed, and every proof is refl.
-use mathlib.Core.Path.{_≡_, refl}
-use mathlib.Core.List.{List, [], _∷_}
-use Prim.Native.Nat.{ℕ}
-use lib.ListN.{take}
-use Rattle.rules.specs.Ranges.{from, block, each, has, count, sum, first}
-use Rattle.rules.specs.Header.{headerOf, sizeOf, refsOf, isHeader}
-use Rattle.rules.specs.Pages.{isPageSize, pageAtStart, isShape, pageNamed, pageNamedBefore, pagesOfHint, pagesNamed, isFree, lowestFree, pagesUsed, pagesNeeded, otherLabel}
-use Rattle.rules.specs.Lent.{isLaidOut, isLabel, isOpen, isValid}
-use Rattle.rules.specs.Walk.{walk, behind, starts, stop, wordsOn, isInUse, isStart, isReference, landing, found}
-use Rattle.rules.specs.Sound.{isBlank, refsGood, isUsedSound, isPageSound, isFillSound, isSound}
-use Rattle.rules.specs.Calls as calls
-use Rattle.rules.specs.Calls.{start, inside, withObject, allocate, lookUp, load, mayStore, store}
-use Rattle.rules.specs.Collection.{hintPage, hintPages, takePage, withRoom, top, put, copyObject, canCopy, keepPage, keepObject, forward, forwardRoots, sweepReference, sweepReferences, isLeft, sizeAtCopy, sweepPage, sweepQueue, freedLabels, freedHeap, filler, fillPlace, fillPage, fillPages, planOf, begun, afterHints, afterRoots, afterSweep, unkeptPages, keptPages, filled, collection}
-use Rattle.rules.specs.Collect.{refusalOfCollect, refusedCollect, acceptedCollect, collect}
+-- has it), and the ends of the input. All of that is closed, and its proof is refl.
+use mathlib.Core.Path.{_≡_, refl, sym, ap, _∙_}
+use mathlib.Core.List.{List, [], _∷_, _++_}
+use Prim.Native.Nat.{ℕ, _/_}
+use native.Mathlib.Omega.{arith}
+use lib.ListN.{length, take, replicate}
+use lib.Seq.{take-all, take-at}
+use Rattle.rules.specs.Unfolded.{theRules}
 use Rattle.entries.specs.Entries.{decode}
 use Rattle.steps.specs.Session.{before, refused, accepted, passed, blank, perform, step}
-use Rattle.lines.specs.Lines.{digits, number, line, noted, ending}
-use Rattle.runs.specs.Run.{rest, run, transcript}
+use Rattle.lines.specs.Lines.{digits, number, line, none, noted, ending}
+use Rattle.runs.specs.Run.{rest, run, bytesRead, transcript}
 
 -- (op, x, y, i, v) of document 01, v as four bytes
-unfoldable input : List ℕ
+abbrev input : List ℕ
 input =
     0 ∷ 0 ∷ 0 ∷ 6 ∷ 8 ∷ 0 ∷ 0 ∷ 0 ∷
     1 ∷ 0 ∷ 1 ∷ 3 ∷ 0 ∷ 0 ∷ 0 ∷ 0 ∷
@@ -41,7 +34,7 @@ input =
     4 ∷ 0 ∷ 0 ∷ 0 ∷ 0 ∷ 0 ∷ 0 ∷ 0 ∷ []
 
 -- "Whole output", line by line
-unfoldable output : List ℕ
+abbrev output : List ℕ
 output =
     48 ∷ 32 ∷ 48 ∷ 32 ∷ 48 ∷ 10 ∷
     49 ∷ 32 ∷ 48 ∷ 32 ∷ 56 ∷ 10 ∷
@@ -64,7 +57,7 @@ output =
 
 -- Q-2: an object at 8 of 4 words in root 0. Looked up are its start, its last word, the word behind it and, modulo 2^32, the one
 -- before it. Operation 9 is none.
-unfoldable looked : List ℕ
+abbrev looked : List ℕ
 looked =
     0 ∷ 0 ∷ 0 ∷ 6 ∷ 8 ∷ 0 ∷ 0 ∷ 0 ∷
     1 ∷ 0 ∷ 0 ∷ 3 ∷ 0 ∷ 0 ∷ 0 ∷ 0 ∷
@@ -74,7 +67,7 @@ looked =
     8 ∷ 0 ∷ 0 ∷ 0 ∷ 255 ∷ 255 ∷ 255 ∷ 255 ∷
     9 ∷ 0 ∷ 0 ∷ 0 ∷ 0 ∷ 0 ∷ 0 ∷ 0 ∷ []
 
-unfoldable told : List ℕ
+abbrev told : List ℕ
 told =
     48 ∷ 32 ∷ 48 ∷ 32 ∷ 48 ∷ 10 ∷
     49 ∷ 32 ∷ 48 ∷ 32 ∷ 56 ∷ 10 ∷
@@ -85,6 +78,15 @@ told =
     54 ∷ 32 ∷ 57 ∷ 32 ∷ 48 ∷ 10 ∷
     101 ∷ 110 ∷ 100 ∷ 32 ∷ 55 ∷ 32 ∷ 51 ∷ 32 ∷ 52 ∷ 10 ∷ []
 
+-- a start, one with T 2, which is refused 1, an allocation, operation 9, and one byte more
+abbrev mixed : List ℕ
+mixed =
+    0 ∷ 0 ∷ 0 ∷ 6 ∷ 8 ∷ 0 ∷ 0 ∷ 0 ∷
+    0 ∷ 0 ∷ 0 ∷ 2 ∷ 8 ∷ 0 ∷ 0 ∷ 0 ∷
+    1 ∷ 0 ∷ 0 ∷ 3 ∷ 0 ∷ 0 ∷ 0 ∷ 0 ∷
+    9 ∷ 0 ∷ 0 ∷ 0 ∷ 0 ∷ 0 ∷ 0 ∷ 0 ∷
+    1 ∷ []
+
 record Examples : Type 0 where
   document01 : transcript input ≡ output
   look-up : transcript looked ≡ told
@@ -92,12 +94,26 @@ record Examples : Type 0 where
   empty : transcript [] ≡ 101 ∷ 110 ∷ 100 ∷ 32 ∷ 48 ∷ 32 ∷ 48 ∷ 32 ∷ 48 ∷ 10 ∷ []
   -- seven bytes: `0 9 0` and `end 1 0 1`
   seven : transcript (take 7 input) ≡ 48 ∷ 32 ∷ 57 ∷ 32 ∷ 48 ∷ 10 ∷ 101 ∷ 110 ∷ 100 ∷ 32 ∷ 49 ∷ 32 ∷ 48 ∷ 32 ∷ 49 ∷ 10 ∷ []
+  -- every line has its own number, the partial record's too, and the tally counts each refusal
+  numbered : transcript mixed
+      ≡ line 0 0 0 ++ line 1 1 0 ++ line 2 0 8 ++ line 3 9 0 ++ line 4 9 0 ++ ending (record { records = 5; accepted = 2; refused = 3 })
+  -- "a lent buffer of at most 8,000 records": 64,000 bytes
+  at-most : length (bytesRead (replicate 64001 7)) ≡ 64000
 
 examples : Examples
-unfolding from block each has count sum first headerOf sizeOf refsOf isHeader isPageSize pageAtStart isShape pageNamed pageNamedBefore pagesOfHint pagesNamed isFree lowestFree pagesUsed pagesNeeded otherLabel isLaidOut isLabel isOpen isValid walk behind starts stop wordsOn isInUse isStart isReference landing found isBlank refsGood isUsedSound isPageSound isFillSound isSound calls.refused inside calls.accepted start withObject allocate lookUp load mayStore store hintPage hintPages takePage withRoom top put copyObject canCopy keepPage keepObject forward forwardRoots sweepReference sweepReferences isLeft sizeAtCopy sweepPage sweepQueue freedLabels freedHeap filler fillPlace fillPage fillPages planOf begun afterHints afterRoots afterSweep unkeptPages keptPages filled collection refusalOfCollect refusedCollect acceptedCollect collect decode before refused accepted passed blank perform step digits number line noted ending rest run transcript input output looked told
+unfolding theRules decode before refused accepted passed blank perform step digits number line noted ending rest run transcript
 examples = record {
   document01 = refl;
   look-up = refl;
   empty = refl;
   seven = refl;
+  numbered = refl;
+  at-most = refl;
 }
+
+-- "later bytes are not read", of any input: what stands behind the 64,000th makes no difference
+later-bytes : (first later : List ℕ) → length first ≡ 64000 → transcript (first ++ later) ≡ transcript first
+unfolding transcript
+later-bytes first later e =
+    let all : take 64000 first ≡ first = take-all 64000 first (omega arith) in
+    ap (λ (bytes : List ℕ). run (length bytes / 8) bytes 0 before none) (take-at first later 64000 e ∙ sym all)

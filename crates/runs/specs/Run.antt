@@ -22,5 +22,8 @@ run zero bytes a s t = rest (length bytes - a) t
 run (suc n) bytes a s t = answered (run n bytes (a + 8)) t (step s (decode (entryAt bytes a)))
 
 -- "a lent buffer of at most 8,000 records; later bytes are not read"
+abbrev pub bytesRead : List ℕ → List ℕ
+bytesRead input = take 64000 input
+
 unfoldable pub transcript : List ℕ → List ℕ
-transcript input = run (length (take 64000 input) / 8) (take 64000 input) 0 before none
+transcript input = run (length (bytesRead input) / 8) (bytesRead input) 0 before none

@@ -1,4 +1,5 @@
 pub mod Session
+pub mod Examples
 pub mod Unchanged
 pub mod Ready
 pub mod Collects
