@@ -6,18 +6,20 @@ use mathlib.Core.Logic.{_≢_, _⊎_, inl, inr}
 use mathlib.Core.List.{List, [], _∷_, _++_, List·Memᴰ, List·Memᴰ·cases-cons, List·Memᴰ·eq-of-singleton, List·Memᴰ·not-nil}
 use Prim.Native.Nat.{ℕ, _+_, _*_, _/_, _≤_, _<_}
 use native.Mathlib.Omega.{arith}
-use lib.ListN.{length, take, replicate}
+use lib.ListN.{length, take}
 use lib.Seq.{getD-take, length-take-le}
-use Rattle.rules.specs.Ranges.{at, from, block}
-use Rattle.rules.specs.Header.{headerOf, sizeOf, refsOf, isHeader}
+use Rattle.rules.specs.Ranges.{at}
+use Rattle.rules.specs.Header.{headerOf, sizeOf}
 use Rattle.rules.specs.Pages.{pagesNamed}
 use Rattle.rules.specs.Lent.{Lent}
-use Rattle.rules.specs.Walk.{walk, behind, starts, stop, isInUse}
+use Rattle.rules.specs.Walk.{stop}
 use Rattle.rules.specs.Sound.{IsObject, refs}
 use Rattle.rules.specs.Collection.{Collection}
 use Rattle.rules.specs.Collect.{CollectOutcome}
 use Rattle.rules.specs.Demands.{Hinted, OnHinted, ReachedBy, staying, byRoot, byReference, Reached, Becomes}
 use Rattle.rules.specs.Demands.{HoldsCopy, OnHintedOrKept, Moved, ReachedKeeping, Faithful, Took, FindsPages}
+use Rattle.rules.specs.Unfolded.{theRules}
+use Rattle.rules.specs.Heaps.{control, page, memory, under}
 use Rattle.theory.specs.Sums.{gather, mem-at, member-length}
 use Rattle.promises.specs.Unkept.{reached-map}
 use Rattle.promises.specs.Listed.{Each, objects, each-object}
@@ -49,17 +51,6 @@ spreads-copies m hints o taken F g h tg th lt none fits = omega (arith, F .stack
 
 -- ---- on small heaps: pages of 8 words, page 3 free; root cells hold 8 and 16; no hints
 
-abbrev page : List ℕ → List ℕ
-page words = take 8 (words ++ replicate 8 0)
-
-abbrev memory : ℕ → List ℕ → List ℕ → Lent
-memory label labels heap = record {
-  heap = heap;
-  labels = labels;
-  links = replicate 4 0;
-  rec = record { page = 8; pages = 4; label = label; opened = 0; fill = 8 };
-}
-
 abbrev cells : List ℕ
 cells = 8 ∷ 16 ∷ []
 
@@ -73,7 +64,7 @@ left roots labels heap = record {
   words = 5;
   kept = 1;
   fillers = 0;
-  lent = memory 2 labels heap;
+  lent = under (memory labels heap) (control 8 (length labels) 2 0 8);
   roots = roots;
 }
 
@@ -135,14 +126,14 @@ module _ (m : Lent) (o : CollectOutcome) (c : Collection) (Pairs : ℕ → ℕ �
 -- 8, in a root cell. The first goes to 24, the last keeps page 2. Page 1 is kept too, with a filler and the garbage. It
 -- holds no object that stayed and is reached (`KeptFor`).
 
-unfoldable pub stuffed : Lent
-stuffed = memory 1 (0 ∷ 1 ∷ 1 ∷ 0 ∷ [])
+abbrev pub stuffed : Lent
+stuffed = memory (0 ∷ 1 ∷ 1 ∷ 0 ∷ [])
     (page []
     ++ page (headerOf 4 0 ∷ 1 ∷ 2 ∷ 3 ∷ 4 ∷ headerOf 2 0 ∷ 5 ∷ 6 ∷ [])
     ++ page (headerOf 7 0 ∷ 1 ∷ 2 ∷ 3 ∷ 4 ∷ 5 ∷ 6 ∷ 7 ∷ [])
     ++ page [])
 
-unfoldable pub garbage : CollectOutcome
+abbrev pub garbage : CollectOutcome
 garbage = left (24 ∷ 16 ∷ []) (0 ∷ 2 ∷ 2 ∷ 2 ∷ [])
     (page []
     ++ page (headerOf 4 0 ∷ 0 ∷ 0 ∷ 0 ∷ 0 ∷ headerOf 2 0 ∷ 5 ∷ 6 ∷ [])
@@ -152,7 +143,7 @@ garbage = left (24 ∷ 16 ∷ []) (0 ∷ 2 ∷ 2 ∷ 2 ∷ [])
 module _ (c : Collection) (Pairs : ℕ → ℕ → Type 0) (F : Faithful stuffed cells [] garbage c Pairs) where
   -- nothing moved to page 1: of the objects there now none has the size of the garbage but itself
   garbage-same : (x y : ℕ) → Pairs x y → y / 8 ≡ 1 → y ≡ x
-  unfolding stuffed garbage Each objects gather from block isInUse starts walk isHeader sizeOf refsOf headerOf
+  unfolding theRules Each objects gather
   garbage-same = each-pair stuffed garbage c Pairs F (λ x y. y / 8 ≡ 1 → y ≡ x) (
     λ y p e. absurd (omega (arith, F .paired .once 8 y 24 p (first stuffed garbage c Pairs F))),
     (
@@ -165,7 +156,7 @@ module _ (c : Collection) (Pairs : ℕ → ℕ → Type 0) (F : Faithful stuffed
   -- the garbage is reached from no page but its own: no object has references
   garbage-unreached : (i x : ℕ) → i < length (c .kept) → at (c .kept) i ≡ 1 → x ≡ 13
       → ReachedKeeping stuffed cells [] (take i (c .kept)) Pairs x → ⊥
-  unfolding stuffed Each objects gather from block isInUse starts walk isHeader sizeOf refsOf headerOf
+  unfolding theRules Each objects gather
   garbage-unreached i x lt e z (staying ob (inl h)) = unhinted stuffed garbage c Pairs F (x / 8) h
   garbage-unreached i x lt e z (staying ob (inr q)) = not-before stuffed garbage c Pairs F i 1 lt e (rw z at (q .page))
   garbage-unreached i x lt e z (byRoot ob k) = not-a-cell stuffed garbage c Pairs F x z k
@@ -173,7 +164,7 @@ module _ (c : Collection) (Pairs : ℕ → ℕ → Type 0) (F : Faithful stuffed
       each-object stuffed (λ y. n < refs stuffed y → ⊥) (λ h. omega arith, (λ h. omega arith, (λ h. omega arith, tt))) y (reached-object r) h
 
   pub keeps-garbage : ⊥
-  unfolding stuffed garbage Each objects gather from block isInUse starts walk isHeader sizeOf refsOf headerOf
+  unfolding theRules Each objects gather
   keeps-garbage =
       let (i, lt, e) = mem-at (c .kept) 1 (unmoved-kept stuffed garbage c Pairs F 1 (omega arith) (omega arith) refl garbage-same) in
       let (x, K) = F .keeps .holds i lt in
@@ -185,12 +176,12 @@ module _ (c : Collection) (Pairs : ℕ → ℕ → Type 0) (F : Faithful stuffed
 
 -- ---- Copies nothing: the same heap, both pages kept as they are, and page 3 left free. It holds no copy (`NoRoom .full`).
 
-unfoldable pub idle : CollectOutcome
+abbrev pub idle : CollectOutcome
 idle = left cells (0 ∷ 2 ∷ 2 ∷ 0 ∷ []) (stuffed .heap)
 
 module _ (c : Collection) (Pairs : ℕ → ℕ → Type 0) (F : Faithful stuffed cells [] idle c Pairs) where
   idle-same : (x y : ℕ) → Pairs x y → y / 8 ≡ 1 → y ≡ x
-  unfolding stuffed idle Each objects gather from block isInUse starts walk isHeader sizeOf refsOf headerOf
+  unfolding theRules Each objects gather
   idle-same = each-pair stuffed idle c Pairs F (λ x y. y / 8 ≡ 1 → y ≡ x) (
     λ y p e. F .paired .once 8 y 8 p (first stuffed idle c Pairs F),
     (
@@ -201,7 +192,7 @@ module _ (c : Collection) (Pairs : ℕ → ℕ → Type 0) (F : Faithful stuffed
   )
 
   pub copies-nothing : ⊥
-  unfolding stuffed idle Each objects gather from block isInUse starts walk isHeader sizeOf refsOf headerOf
+  unfolding theRules Each objects gather
   copies-nothing = keeps-beside-a-free-page stuffed cells [] idle c Pairs F 3 1
       (unmoved-kept stuffed idle c Pairs F 1 (omega arith) (omega arith) refl idle-same)
       (omega arith) (omega arith) refl
@@ -211,20 +202,20 @@ module _ (c : Collection) (Pairs : ℕ → ℕ → Type 0) (F : Faithful stuffed
 -- ---- Keeps though the copy page has room. Page 1 has an object of 5 words, in a root cell, and garbage; page 2 has one of
 -- 2, in a root cell. The first goes to 24, and page 2 is kept though 5 and 2 words fit page 3 (`NoRoom .tight`).
 
-unfoldable pub roomy : Lent
-roomy = memory 1 (0 ∷ 1 ∷ 1 ∷ 0 ∷ [])
+abbrev pub roomy : Lent
+roomy = memory (0 ∷ 1 ∷ 1 ∷ 0 ∷ [])
     (page []
     ++ page (headerOf 4 0 ∷ 1 ∷ 2 ∷ 3 ∷ 4 ∷ headerOf 2 0 ∷ 5 ∷ 6 ∷ [])
     ++ page (headerOf 1 0 ∷ 7 ∷ [])
     ++ page [])
 
-unfoldable pub hasty : CollectOutcome
+abbrev pub hasty : CollectOutcome
 hasty = left (24 ∷ 16 ∷ []) (0 ∷ 0 ∷ 2 ∷ 2 ∷ [])
     (page [] ++ page [] ++ page (headerOf 1 0 ∷ 7 ∷ []) ++ page (headerOf 4 0 ∷ 1 ∷ 2 ∷ 3 ∷ 4 ∷ []))
 
 module _ (c : Collection) (Pairs : ℕ → ℕ → Type 0) (F : Faithful roomy cells [] hasty c Pairs) where
   hasty-same : (x y : ℕ) → Pairs x y → y / 8 ≡ 2 → y ≡ x
-  unfolding roomy hasty Each objects gather from block isInUse starts walk isHeader sizeOf refsOf headerOf
+  unfolding theRules Each objects gather
   hasty-same = each-pair roomy hasty c Pairs F (λ x y. y / 8 ≡ 2 → y ≡ x) (
     λ y p e. absurd (omega (arith, F .paired .once 8 y 24 p (first roomy hasty c Pairs F))),
     (
@@ -235,7 +226,7 @@ module _ (c : Collection) (Pairs : ℕ → ℕ → Type 0) (F : Faithful roomy c
   )
 
   pub keeps-beside-room : ⊥
-  unfolding roomy hasty Each objects gather from block isInUse starts walk behind stop isHeader sizeOf refsOf headerOf
+  unfolding theRules Each objects gather
   keeps-beside-room =
       let k = unmoved-kept roomy hasty c Pairs F 2 (omega arith) (omega arith) refl hasty-same in
       let (x, K, over) = F .keeps .room (member-length k) .tight in
@@ -248,14 +239,14 @@ module _ (c : Collection) (Pairs : ℕ → ℕ → Type 0) (F : Faithful roomy c
 -- 8 on page 2 refers, which is in a root cell. The first goes to 24, page 2 is kept, and then the one of 2 words goes
 -- to 29, though it is reached from the kept page alone (`NoRoom .moved`).
 
-unfoldable pub chained : Lent
-chained = memory 1 (0 ∷ 1 ∷ 1 ∷ 0 ∷ [])
+abbrev pub chained : Lent
+chained = memory (0 ∷ 1 ∷ 1 ∷ 0 ∷ [])
     (page []
     ++ page (headerOf 4 0 ∷ 1 ∷ 2 ∷ 3 ∷ 4 ∷ headerOf 1 0 ∷ 5 ∷ [])
     ++ page (headerOf 7 1 ∷ 13 ∷ 2 ∷ 3 ∷ 4 ∷ 5 ∷ 6 ∷ 7 ∷ [])
     ++ page [])
 
-unfoldable pub late : CollectOutcome
+abbrev pub late : CollectOutcome
 late = left (24 ∷ 16 ∷ []) (0 ∷ 0 ∷ 2 ∷ 2 ∷ [])
     (page []
     ++ page []
@@ -264,12 +255,12 @@ late = left (24 ∷ 16 ∷ []) (0 ∷ 0 ∷ 2 ∷ 2 ∷ [])
 
 module _ (c : Collection) (Pairs : ℕ → ℕ → Type 0) (F : Faithful chained cells [] late c Pairs) where
   third : Pairs 13 29
-  unfolding chained late sizeOf refsOf headerOf
+  unfolding theRules
   third = cell chained late c Pairs F 13 29 (omega arith)
       (F .paired .references 16 16 0 (second chained late c Pairs F) (omega arith))
 
   late-same : (x y : ℕ) → Pairs x y → y / 8 ≡ 2 → y ≡ x
-  unfolding chained late Each objects gather from block isInUse starts walk isHeader sizeOf refsOf headerOf
+  unfolding theRules Each objects gather
   late-same = each-pair chained late c Pairs F (λ x y. y / 8 ≡ 2 → y ≡ x) (
     λ y p e. absurd (omega (arith, F .paired .once 8 y 24 p (first chained late c Pairs F))),
     (
@@ -279,7 +270,7 @@ module _ (c : Collection) (Pairs : ℕ → ℕ → Type 0) (F : Faithful chained
   )
 
   late-unreached : (x : ℕ) → x ≡ 13 → ReachedKeeping chained cells [] [] Pairs x → ⊥
-  unfolding chained late Each objects gather from block isInUse starts walk isHeader sizeOf refsOf headerOf
+  unfolding theRules Each objects gather
   late-unreached x z (staying ob (inl h)) = unhinted chained late c Pairs F (x / 8) h
   late-unreached x z (staying ob (inr q)) = List·Memᴰ·not-nil (q .page)
   late-unreached x z (byRoot ob k) = not-a-cell chained late c Pairs F x z k
@@ -294,7 +285,6 @@ module _ (c : Collection) (Pairs : ℕ → ℕ → Type 0) (F : Faithful chained
       stays (inr (y, p, n)) = n (F .paired .once 16 y 16 p (second chained late c Pairs F))
 
   pub copies-after-keeping : ⊥
-  unfolding chained late
   copies-after-keeping =
       let k = unmoved-kept chained late c Pairs F 2 (omega arith) (omega arith) refl late-same in
       late-unreached 13 refl (F .keeps .room (member-length k) .moved 13 (29, third, omega arith))
