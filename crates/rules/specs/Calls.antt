@@ -111,12 +111,16 @@ onStart (Start w) a m go = go w
 onStart (Inside s) a m go = told (Inside s) a m
 onStart Nothing a m go = told Nothing a m
 
+-- not refused 5: an object with this header has a payload word i
+abbrev pub inPayload : ℕ → ℕ → Bool
+inPayload w i = ltb i (sizeOf w - 1)
+
 -- "Load returns payload word i."
 unfoldable pub load : Lent → ℕ → ℕ → Outcome
 load m a i =
     unless (isValid m) 1 m
     (onStart (found m a) a m (λ w.
-    unless (ltb i (sizeOf w - 1)) 5 m
+    unless (inPayload w i) 5 m
     (accepted (at (m .heap) (a + 1 + i)) m)))
 
 -- "for i < p the value is checked (6), otherwise any number goes"
@@ -131,6 +135,6 @@ unfoldable pub store : Lent → ℕ → ℕ → ℕ → Outcome
 store m a i v =
     unless (isValid m) 1 m
     (onStart (found m a) a m (λ w.
-    unless (ltb i (sizeOf w - 1)) 5 m
+    unless (inPayload w i) 5 m
     (unless (mayStore m w i v) 6 m
     (accepted 0 (stored m a i v)))))

@@ -12,7 +12,7 @@ control P T l g f = record { page = P; pages = T; label = l; opened = g; fill = 
 
 -- memory of T pages of P words that held something else
 abbrev pub held : ℕ → ℕ → Lent
-held P T = lent (replicate (T * P) 7) (replicate T 7) (replicate T 7) (control 0 0 0 0 0)
+held P T = lent (replicate (T * P) 7) (replicate T 7) (replicate T 7) (control 7 7 7 7 7)
 
 -- P 8, T 6
 abbrev pub fresh : Lent
