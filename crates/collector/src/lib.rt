@@ -2,15 +2,15 @@
 ghost use Rattle.std.specs.Prelude.{◌≡◌, List, ℕ};
 ghost use Rattle.rules.specs.Ranges.{each};
 ghost use Rattle.rules.specs.Lent.{lent};
-ghost use Rattle.rules.specs.Walk.{isReference};
-ghost use Rattle.rules.specs.Collect.{collectOutcome, refusalOfCollect, refusedCollect, collect};
+ghost use Rattle.rules.specs.Walk.{is_reference};
+ghost use Rattle.rules.specs.Collect.{collect_outcome, refusal_of_collect, refused_collect, collect};
 
 use layout::{record, walk};
 use rules::{Collected, Record};
 
 // Each root cell is 0 or an object start.
 fn are_roots_good(heap: &[u32], labels: &[u16], r: Record, roots: &[u32]) -> bool
-    ensures { (links : List ℕ) → result ≡ each (isReference (lent heap.now labels.now links r)) roots.now }
+    ensures { (links : List ℕ) → result ≡ each (is_reference (lent heap.now labels.now links r)) roots.now }
 {
     let mut i = 0;
     while i < roots.len() {
@@ -24,7 +24,7 @@ fn are_roots_good(heap: &[u32], labels: &[u16], r: Record, roots: &[u32]) -> boo
 
 // The refusal's number, 0 if all tests pass.
 fn refusal(heap: &[u32], labels: &[u16], links: &[u16], r: Record, roots: &[u32]) -> u32
-    ensures { result ≡ refusalOfCollect (lent heap.now labels.now links.now r) roots.now }
+    ensures { result ≡ refusal_of_collect (lent heap.now labels.now links.now r) roots.now }
 {
     if !record::is_valid(heap, labels, links, r) {
         return 1;
@@ -40,7 +40,7 @@ fn refusal(heap: &[u32], labels: &[u16], links: &[u16], r: Record, roots: &[u32]
 
 // A refused collection's answer: its number, six zeros, and the record it was given.
 fn refused(refusal: u32, r: Record) -> Collected
-    ensures { (heap labels links roots : List ℕ) → collectOutcome result heap labels links roots ≡ refusedCollect refusal (lent heap labels links r) roots }
+    ensures { (heap labels links roots : List ℕ) → collect_outcome result heap labels links roots ≡ refused_collect refusal (lent heap labels links r) roots }
 {
     Collected {
         refusal,
@@ -63,7 +63,7 @@ pub fn collect(
     roots: &mut [u32],
     hints: &[u32],
 ) -> Collected
-    ensures { collectOutcome result heap.new labels.new links.new roots.new ≡ collect (lent heap.old labels.old links.old r) roots.old hints.now }
+    ensures { collect_outcome result heap.new labels.new links.new roots.new ≡ collect (lent heap.old labels.old links.old r) roots.old hints.now }
 {
     let number = refusal(heap, labels, links, r, roots);
     if number != 0 {

@@ -5,11 +5,11 @@ ghost use Rattle.std.specs.Prelude.{◌≡◌, ◌⊎◌, List, ℕ, ◌+◌, �
 ghost use Rattle.std.proofs.lemmas.List.Edits.{sets};
 ghost use Rattle.rules.specs.Ranges.{at};
 ghost use Rattle.rules.specs.Header.{size_of};
-ghost use Rattle.rules.specs.Pages.{lowestFree};
-ghost use Rattle.rules.specs.Collection.{takePage, withRoom, copyObject, canCopy, keepObject, forward, forwardRoots};
+ghost use Rattle.rules.specs.Pages.{lowest_free};
+ghost use Rattle.rules.specs.Collection.{take_page, with_room, copy_object, can_copy, keep_object, forward, forward_roots};
 ghost use Rattle.laws.specs.Safe.{SafeTake, SafeCopy, SafeKeep, SafeForward, SafeRoots};
 ghost use Rattle.hints.specs.Code.{plan};
-ghost use Rattle.copies.specs.Code.{pagesOf, state_of, forwardedOf, rootedOf, Tied, taken, copied, keeping};
+ghost use Rattle.copies.specs.Code.{pages_of, state_of, forwarded_of, rooted_of, Tied, taken, copied, keeping};
 
 use hints::Shape;
 use layout::tables;
@@ -80,9 +80,9 @@ pub struct Moved {
 // The lowest-numbered free page is taken. No page below the cursor is free, so a whole collection looks
 // at each label twice at most, here and in `can_copy`.
 fn take_page(labels: &mut [u16], links: &mut [u16], k: Shape, g: Gather) -> Gather
-    requires safe_take { SafeTake (plan k) (pagesOf labels.old links.old g) }
+    requires safe_take { SafeTake (plan k) (pages_of labels.old links.old g) }
     requires tied { Tied k labels.old links.old g }
-    ensures result_after { pagesOf labels.new links.new result ≡ takePage (plan k) (pagesOf labels.old links.old g) }
+    ensures result_after { pages_of labels.new links.new result ≡ take_page (plan k) (pages_of labels.old links.old g) }
     ensures tied_2 { Tied k labels.new links.new result }
     ensures objects_value { (result.objects ≡ g.objects) × (result.words ≡ g.words) }
 {
@@ -94,9 +94,9 @@ fn take_page(labels: &mut [u16], links: &mut [u16], k: Shape, g: Gather) -> Gath
 // Room for n words on the copy page: this one if they fit, otherwise a page taken.
 fn with_room(labels: &mut [u16], links: &mut [u16], k: Shape, g: Gather, n: u32) -> Gather
     requires fill_le_page { g.fill ≤ k.page }
-    requires safe_take { k.page < g.fill + n → SafeTake (plan k) (pagesOf labels.old links.old g) }
+    requires safe_take { k.page < g.fill + n → SafeTake (plan k) (pages_of labels.old links.old g) }
     requires tied { Tied k labels.old links.old g }
-    ensures result_after { pagesOf labels.new links.new result ≡ withRoom (plan k) n (pagesOf labels.old links.old g) }
+    ensures result_after { pages_of labels.new links.new result ≡ with_room (plan k) n (pages_of labels.old links.old g) }
     ensures tied_2 { Tied k labels.new links.new result }
     ensures objects_value { (result.objects ≡ g.objects) × (result.words ≡ g.words) }
 {
@@ -132,7 +132,7 @@ fn copy_object(
     requires safe_copy { SafeCopy (plan k) (size_of (at heap.old address)) address (state_of heap.old labels.old links.old start) }
     requires address_in_bounds { address < length heap.old }
     requires tied { Tied k labels.old links.old start }
-    ensures gather_after { forwardedOf result.value (state_of heap.new labels.new links.new result.gather) ≡ copyObject (plan k) address (state_of heap.old labels.old links.old start) }
+    ensures gather_after { forwarded_of result.value (state_of heap.new labels.new links.new result.gather) ≡ copy_object (plan k) address (state_of heap.old labels.old links.old start) }
     ensures tied_2 { Tied k labels.new links.new result.gather }
 {
     let x = address as usize;
@@ -149,8 +149,8 @@ fn copy_object(
 // the copy page or a page is free.
 fn can_copy(labels: &[u16], k: Shape, g: Gather, n: u32) -> bool
     requires fill_le_page { g.fill ≤ k.page }
-    requires pages_value { lowestFree labels.now g.cursor k.pages ≡ lowestFree labels.now 1 k.pages }
-    ensures { (links : List ℕ) → result ≡ canCopy (plan k) n (pagesOf labels.now links g) }
+    requires pages_value { lowest_free labels.now g.cursor k.pages ≡ lowest_free labels.now 1 k.pages }
+    ensures { (links : List ℕ) → result ≡ can_copy (plan k) n (pages_of labels.now links g) }
 {
     if g.kept != 0 {
         return false;
@@ -171,9 +171,9 @@ fn keep_object(
     address: u32,
 ) -> Moved
     requires page_nonzero { (0 < k.page) × (address / k.page < length labels.old) }
-    requires safe_keep { SafeKeep (plan k) (address / k.page) (pagesOf labels.old links.old start) }
+    requires safe_keep { SafeKeep (plan k) (address / k.page) (pages_of labels.old links.old start) }
     requires tied { Tied k labels.old links.old start }
-    ensures by_index { (heap : List ℕ) → forwardedOf result.value (state_of heap labels.new links.new result.gather) ≡ keepObject (plan k) address (state_of heap labels.old links.old start) }
+    ensures by_index { (heap : List ℕ) → forwarded_of result.value (state_of heap labels.new links.new result.gather) ≡ keep_object (plan k) address (state_of heap labels.old links.old start) }
     ensures tied_2 { Tied k labels.new links.new result.gather }
 {
     hints::join(labels, links, k, start.tail, address / k.page);
@@ -196,7 +196,7 @@ pub fn forward(
 ) -> Moved
     requires safe_forward { SafeForward (plan k) value (state_of heap.old labels.old links.old gather) }
     requires tied { Tied k labels.old links.old gather }
-    ensures gather_after { forwardedOf result.value (state_of heap.new labels.new links.new result.gather) ≡ forward (plan k) value (state_of heap.old labels.old links.old gather) }
+    ensures gather_after { forwarded_of result.value (state_of heap.new labels.new links.new result.gather) ≡ forward (plan k) value (state_of heap.old labels.old links.old gather) }
     ensures tied_2 { Tied k labels.new links.new result.gather }
 {
     if value == 0 {
@@ -231,7 +231,7 @@ pub fn forward_roots(
 ) -> Gather
     requires safe_roots { SafeRoots (plan k) roots.old (state_of heap.old labels.old links.old start) }
     requires tied { Tied k labels.old links.old start }
-    ensures result_after { rootedOf roots.new (state_of heap.new labels.new links.new result) ≡ forwardRoots (plan k) roots.old (state_of heap.old labels.old links.old start) }
+    ensures result_after { rooted_of roots.new (state_of heap.new labels.new links.new result) ≡ forward_roots (plan k) roots.old (state_of heap.old labels.old links.old start) }
     ensures tied_2 { Tied k labels.new links.new result }
 {
     let mut g = start;

@@ -47,25 +47,25 @@ decode e =
 
 -- "There are 16 root cells and 16 hint words": refused 9 are "a used slot above 15; before any accepted start, any operation
 -- but 0"
-abbrev pub isSlot : ℕ → Bool
-isSlot x = ltb x 16
+abbrev pub is_slot : ℕ → Bool
+is_slot x = ltb x 16
 
-abbrev pub mayUse : Bool → List ℕ → Bool
-mayUse begun slots = begun && each isSlot slots
+abbrev pub may_use : Bool → List ℕ → Bool
+may_use begun slots = begun && each is_slot slots
 
-abbrev pub operandSlots : Operand → List ℕ
-operandSlots (Root y) = y ∷ []
-operandSlots (Number v) = []
+abbrev pub operand_slots : Operand → List ℕ
+operand_slots (Root y) = y ∷ []
+operand_slots (Number v) = []
 
 -- Not refused 9 at once, by the slots that each operation uses. For a start 9 comes after 1 (Session.antt); an operation above 8
 -- is never allowed.
-abbrev pub isAllowed : Bool → Step → Bool
-isAllowed begun (Start P T) = true
-isAllowed begun (Allocate x d p) = mayUse begun (x ∷ [])
-isAllowed begun (Store x i operand) = mayUse begun (x ∷ operandSlots operand)
-isAllowed begun (Load x i) = mayUse begun (x ∷ [])
-isAllowed begun (Hint x y v) = mayUse begun (x ∷ y ∷ [])
-isAllowed begun (Clear x) = mayUse begun (x ∷ [])
-isAllowed begun Collect = mayUse begun []
-isAllowed begun (LookUp x v) = mayUse begun (x ∷ [])
-isAllowed begun Bad = false
+abbrev pub is_allowed : Bool → Step → Bool
+is_allowed begun (Start P T) = true
+is_allowed begun (Allocate x d p) = may_use begun (x ∷ [])
+is_allowed begun (Store x i operand) = may_use begun (x ∷ operand_slots operand)
+is_allowed begun (Load x i) = may_use begun (x ∷ [])
+is_allowed begun (Hint x y v) = may_use begun (x ∷ y ∷ [])
+is_allowed begun (Clear x) = may_use begun (x ∷ [])
+is_allowed begun Collect = may_use begun []
+is_allowed begun (LookUp x v) = may_use begun (x ∷ [])
+is_allowed begun Bad = false

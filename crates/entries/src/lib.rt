@@ -3,7 +3,7 @@
 pub mod reader;
 
 ghost use Rattle.std.specs.Prelude.{◌≡◌, [], ◌∷◌, ◌+◌, ◌<◌, ◌≤◌, length};
-ghost use Rattle.entries.specs.Entries.{word_at, entry_at, next_at, decode, mayUse, isAllowed};
+ghost use Rattle.entries.specs.Entries.{word_at, entry_at, next_at, decode, may_use, is_allowed};
 
 // Operation, x, y and i, a byte each, and v.
 #[derive(Drop)]
@@ -146,7 +146,7 @@ pub fn decode(e: Entry) -> Step
 
 // A start was accepted, and slots x and y are below 16. A step that uses fewer than two passes 0.
 fn may_use(begun: bool, x: u32, y: u32) -> bool
-    ensures { result ≡ mayUse begun (x ∷ y ∷ []) }
+    ensures { result ≡ may_use begun (x ∷ y ∷ []) }
 {
     if !begun {
         return false;
@@ -160,7 +160,7 @@ fn may_use(begun: bool, x: u32, y: u32) -> bool
 // Not refused 9 at once: an operation of the table, every slot that it uses below 16, and a start before it, unless it is
 // one.
 pub fn is_allowed(begun: bool, step: Step) -> bool
-    ensures { result ≡ isAllowed begun step }
+    ensures { result ≡ is_allowed begun step }
 {
     match step {
         Step::Start { page: _, pages: _ } => true,

@@ -9,13 +9,13 @@ use native.Mathlib.Numerals.{add-one}
 use lib.ListN.{length, take, drop, length-append, drop_of_length-le}
 use lib.Seq.{sets, drop-cons, get_or-take}
 use Rattle.rules.specs.Ranges.{at}
-use Rattle.rules.specs.Header.{size_of, isHeader}
-use Rattle.rules.specs.Collection.{Filled, isLeft, filler, fillPlace, fillPage, fillPages}
-use Rattle.laws.specs.Headers.{Header, header-says, header-full, left-full}
-use Rattle.laws.specs.Fills.{filledOf, page-after}
+use Rattle.rules.specs.Header.{size_of, is_header}
+use Rattle.rules.specs.Collection.{Filled, is_left, filler, fill_place, fill_page, fill_pages}
+use Rattle.laws.specs.Headers.{Header, header_says, header_full, left_full}
+use Rattle.laws.specs.Fills.{filled_of, page_after}
 use Rattle.laws.specs.Safe.{SafeStep, SafeFill, SafeFills}
-use Rattle.hints.specs.Queue.{queue-length}
-use Rattle.fillers.specs.Places.{LeftBy, Turns, turns-none, turns-on}
+use Rattle.hints.specs.Queue.{queue_length}
+use Rattle.fillers.specs.Places.{LeftBy, Turns, turns_none, turns_on}
 use Rattle.fillers.specs.Code.{FilledAs}
 
 -- ---- the places of a page, from address x to the page's end e, after n fillers
@@ -26,96 +26,96 @@ pub record Filling (e : ℕ) (goal : Filled) (h : List ℕ) (n x : ℕ) : Type 0
   pub turns : Turns e x f room
   pub places : List ℕ
   pub many : length places ≡ n
-  pub same : fillPage f x room (filledOf h places) ≡ goal
+  pub same : fill_page f x room (filled_of h places) ≡ goal
   pub safe : SafeFill f x room h
 
 module _ (e : ℕ) (goal : Filled) (h : List ℕ) (n x : ℕ) (F : Filling e goal h n x) where
-  stop-go : (f r : ℕ) (s : Filled) → isHeader (at s.heap x) r ≡ false → isLeft (at s.heap x) r ≡ false → fillPage f x r s ≡ s
-  unfolding fillPage
-  stop-go zero r s a b = refl
-  stop-go (suc f) r s a b = rw (a, b)
+  stop_go : (f r : ℕ) (s : Filled) → is_header (at s.heap x) r ≡ false → is_left (at s.heap x) r ≡ false → fill_page f x r s ≡ s
+  unfolding fill_page
+  stop_go zero r s a b = refl
+  stop_go (suc f) r s a b = rw (a, b)
 
-  pub filling-stop : isHeader (at h x) (e - x) ≡ false → isLeft (at h x) (e - x) ≡ false → FilledAs goal h n
-  filling-stop a b =
-      let q : goal ≡ filledOf h F.places = sym F.same ∙ stop-go F.f F.room (filledOf h F.places) (rw F.turns.place a) (rw F.turns.place b) in
+  pub filling_stop : is_header (at h x) (e - x) ≡ false → is_left (at h x) (e - x) ≡ false → FilledAs goal h n
+  filling_stop a b =
+      let q : goal ≡ filled_of h F.places = sym F.same ∙ stop_go F.f F.room (filled_of h F.places) (rw F.turns.place a) (rw F.turns.place b) in
       record { heap = rw q; places = rw q (sym F.many) }
 
-  pub filling-past : e ≤ x → FilledAs goal h n
-  filling-past p = let z : e - x ≡ 0 = omega arith in filling-stop (rw z (header-full (at h x))) (rw z (left-full (at h x)))
+  pub filling_past : e ≤ x → FilledAs goal h n
+  filling_past p = let z : e - x ≡ 0 = omega arith in filling_stop (rw z (header_full (at h x))) (rw z (left_full (at h x)))
 
   module _ (p : x < e) where
-    left-go : (f r : ℕ) → Turns e x f r → SafeFill f x r h → isLeft (at h x) (e - x) ≡ true → SafeStep h (at h x) (e - x)
+    left_go : (f r : ℕ) → Turns e x f r → SafeFill f x r h → is_left (at h x) (e - x) ≡ true → SafeStep h (at h x) (e - x)
     unfolding SafeFill
-    left-go zero r T S y = absurd (turns-none T p)
-    left-go (suc f) r T S y = rw T.place at (S.1 (rw T.place y)).0
+    left_go zero r T S y = absurd (turns_none T p)
+    left_go (suc f) r T S y = rw T.place at (S.1 (rw T.place y)).0
 
-    pub filling-safe : isLeft (at h x) (e - x) ≡ true → SafeStep h (at h x) (e - x)
-    filling-safe = left-go F.f F.room F.turns F.safe
+    pub filling_safe : is_left (at h x) (e - x) ≡ true → SafeStep h (at h x) (e - x)
+    filling_safe = left_go F.f F.room F.turns F.safe
 
     -- a turn over an object, of m words
-    object-go : (f r : ℕ) → Turns e x f r → fillPage f x r (filledOf h F.places) ≡ goal → SafeFill f x r h → isHeader (at h x) (e - x) ≡ true → Filling e goal h n (x + size_of (at h x))
-    unfolding fillPage SafeFill
-    object-go zero r T q S y = absurd (turns-none T p)
-    object-go (suc f) r T q S y =
-        let y' : isHeader (at h x) r ≡ true = rw T.place y in
-        let H : Header (at h x) r = header-says _ _ y' in
-        record { f = f; room = r - size_of (at h x); turns = turns-on T (size_of (at h x)) (omega (arith, H.shape)); places = F.places; many = F.many; same = rw y' at q; safe = S.0 y' }
+    object_go : (f r : ℕ) → Turns e x f r → fill_page f x r (filled_of h F.places) ≡ goal → SafeFill f x r h → is_header (at h x) (e - x) ≡ true → Filling e goal h n (x + size_of (at h x))
+    unfolding fill_page SafeFill
+    object_go zero r T q S y = absurd (turns_none T p)
+    object_go (suc f) r T q S y =
+        let y' : is_header (at h x) r ≡ true = rw T.place y in
+        let H : Header (at h x) r = header_says _ _ y' in
+        record { f = f; room = r - size_of (at h x); turns = turns_on T (size_of (at h x)) (omega (arith, H.shape)); places = F.places; many = F.many; same = rw y' at q; safe = S.0 y' }
 
-    pub filling-object : (m : ℕ) → isHeader (at h x) (e - x) ≡ true → m ≡ size_of (at h x) → Filling e goal h n (x + m)
-    filling-object m y q = rw q (object-go F.f F.room F.turns F.same F.safe y)
+    pub filling_object : (m : ℕ) → is_header (at h x) (e - x) ≡ true → m ≡ size_of (at h x) → Filling e goal h n (x + m)
+    filling_object m y q = rw q (object_go F.f F.room F.turns F.same F.safe y)
 
     -- a turn over a place that an object of m words left
-    place-go : (f r m : ℕ) → Turns e x f r → fillPage f x r (filledOf h F.places) ≡ goal → SafeFill f x r h → isHeader (at h x) (e - x) ≡ false → LeftBy h (at h x) (e - x) m
+    place_go : (f r m : ℕ) → Turns e x f r → fill_page f x r (filled_of h F.places) ≡ goal → SafeFill f x r h → is_header (at h x) (e - x) ≡ false → LeftBy h (at h x) (e - x) m
         → Filling e goal (sets h x (filler m)) (n + 1) (x + m)
-    unfolding fillPage fillPlace SafeFill
-    place-go zero r m T q S y L = absurd (turns-none T p)
-    place-go (suc f) r m T q S y L =
-        let y' : isHeader (at h x) r ≡ false = rw T.place y in
-        let l : isLeft (at h x) r ≡ true = rw T.place L.left in
+    unfolding fill_page fill_place SafeFill
+    place_go zero r m T q S y L = absurd (turns_none T p)
+    place_go (suc f) r m T q S y L =
+        let y' : is_header (at h x) r ≡ false = rw T.place y in
+        let l : is_left (at h x) r ≡ true = rw T.place L.left in
         record {
           f = f;
           room = r - m;
-          turns = turns-on T m L.some;
+          turns = turns_on T m L.some;
           places = F.places ++ (x ∷ []);
           many = simp length-append (omega (arith, F.many));
           same = rw L.size (rw (y', l) at q);
           safe = rw L.size (S.1 l).1;
         }
 
-    pub filling-place : (m : ℕ) → isHeader (at h x) (e - x) ≡ false → LeftBy h (at h x) (e - x) m → (t : List ℕ) → t ≡ sets h x (filler m) → Filling e goal t (n + 1) (x + m)
-    filling-place m y L t q = rw q (place-go F.f F.room m F.turns F.same F.safe y L)
+    pub filling_place : (m : ℕ) → is_header (at h x) (e - x) ≡ false → LeftBy h (at h x) (e - x) m → (t : List ℕ) → t ≡ sets h x (filler m) → Filling e goal t (n + 1) (x + m)
+    filling_place m y L t q = rw q (place_go F.f F.room m F.turns F.same F.safe y L)
 
 -- ---- the pages kept, the links from the i-th up to the tail, after n fillers
 
 pub record Fillings (P : ℕ) (goal : Filled) (pages h : List ℕ) (n : ℕ) : Type 0 where
   pub places : List ℕ
   pub many : length places ≡ n
-  pub same : fillPages P pages (filledOf h places) ≡ goal
+  pub same : fill_pages P pages (filled_of h places) ≡ goal
   pub safe : SafeFills P pages h
 
 module _ (P : ℕ) (goal : Filled) (links h : List ℕ) (tail i n : ℕ) (F : Fillings P goal (drop i (take tail links)) h n) (t : tail ≤ length links) where
   len : length (take tail links) ≡ tail
-  len = queue-length links tail t
+  len = queue_length links tail t
 
-  pub fillings-end : tail ≤ i → FilledAs goal h n
-  unfolding fillPages
-  fillings-end p =
-      let q : goal ≡ filledOf h F.places = sym F.same ∙ rw (drop_of_length-le (take tail links) {i = i} (omega (arith, len))) in
+  pub fillings_end : tail ≤ i → FilledAs goal h n
+  unfolding fill_pages
+  fillings_end p =
+      let q : goal ≡ filled_of h F.places = sym F.same ∙ rw (drop_of_length-le (take tail links) {i = i} (omega (arith, len))) in
       record { heap = rw q; places = rw q (sym F.many) }
 
   module _ (p : i < tail) where
     rest : drop i (take tail links) ≡ at links i ∷ drop (i + 1) (take tail links)
     rest = drop-cons (take tail links) i 0 (omega (arith, len)) ∙ rw (get_or-take tail links i 0 p, add-one i)
 
-    pub fillings-safe : (at links i * P + P ≤ length h) × SafeFill P (at links i * P) P h
+    pub fillings_safe : (at links i * P + P ≤ length h) × SafeFill P (at links i * P) P h
     unfolding SafeFills
-    fillings-safe = let q = rw rest at F.safe in (q.0, q.1.0)
+    fillings_safe = let q = rw rest at F.safe in (q.0, q.1.0)
 
-    pub fillings-turn : (h' : List ℕ) (r : ℕ) → FilledAs (fillPage P (at links i * P) P (filledOf h [])) h' r → Fillings P goal (drop (i + 1) (take tail links)) h' (n + r)
-    unfolding fillPages SafeFills
-    fillings-turn h' r A = record {
-      places = F.places ++ (fillPage P (at links i * P) P (filledOf h [])).places;
+    pub fillings_turn : (h' : List ℕ) (r : ℕ) → FilledAs (fill_page P (at links i * P) P (filled_of h [])) h' r → Fillings P goal (drop (i + 1) (take tail links)) h' (n + r)
+    unfolding fill_pages SafeFills
+    fillings_turn h' r A = record {
+      places = F.places ++ (fill_page P (at links i * P) P (filled_of h [])).places;
       many = simp length-append (omega (arith, F.many, A.places));
-      same = rw (A.heap, ← (page-after P (at links i * P) P h F.places []), append-nil) (rw rest at F.same);
+      same = rw (A.heap, ← (page_after P (at links i * P) P h F.places []), append-nil) (rw rest at F.same);
       safe = rw A.heap (rw rest at F.safe).1.1;
     }

@@ -3,9 +3,9 @@
 // more, it becomes a filler, of the same length, no references, zeros. These are no calls for users: they are
 // safe only where the tests of collect have passed, and their `requires` say so, as in `phases`.
 ghost use Rattle.std.specs.Prelude.{◌≡◌, true, [], ◌+◌, ◌-◌, ◌≤◌, length, take, drop};
-ghost use Rattle.rules.specs.Collection.{isLeft, fillPage, fillPages};
+ghost use Rattle.rules.specs.Collection.{is_left, fill_page, fill_pages};
 ghost use Rattle.laws.specs.Safe.{SafeStep, SafeFill, SafeFills};
-ghost use Rattle.fillers.specs.Places.{leftSize};
+ghost use Rattle.fillers.specs.Places.{left_size};
 ghost use Rattle.fillers.specs.Code.{FilledAs};
 
 use copies::Gather;
@@ -23,8 +23,8 @@ pub fn wide(x: u16) -> usize
 // The length at the copy, if an object was copied out of the place that begins with `word`, where there are
 // `room` words before the page's end; otherwise 0.
 pub fn left_size(heap: &[u32], word: u32, room: usize) -> usize
-    requires { isLeft word room ≡ true → SafeStep heap.now word room }
-    ensures { result ≡ leftSize heap.now word room }
+    requires { is_left word room ≡ true → SafeStep heap.now word room }
+    ensures { result ≡ left_size heap.now word room }
 {
     if !header::is_left(word, room) {
         return 0;
@@ -37,7 +37,7 @@ pub fn left_size(heap: &[u32], word: u32, room: usize) -> usize
 fn fill_page(heap: &mut [u32], k: Shape, base: usize) -> u32
     requires page_bound { (k.page ≤ 1024) × (base + k.page ≤ length heap.old) }
     requires safe_fill { SafeFill k.page base k.page heap.old }
-    ensures filled_as { FilledAs (fillPage k.page base k.page (record { heap = heap.entry.now; places = [] })) heap.exit.now result }
+    ensures filled_as { FilledAs (fill_page k.page base k.page (record { heap = heap.entry.now; places = [] })) heap.exit.now result }
     ensures upper_bound { result ≤ k.page }
 {
     let mut n: u32 = 0;
@@ -65,7 +65,7 @@ fn fill_page(heap: &mut [u32], k: Shape, base: usize) -> u32
 pub fn fill_pages(heap: &mut [u32], links: &[u16], k: Shape, g: Gather) -> u32
     requires page_bound { (k.page ≤ 1024) × (g.kept ≤ g.tail) × (g.tail ≤ length links.now) × (length links.now ≤ 4096) }
     requires safe_fills { SafeFills k.page (drop (g.tail - g.kept) (take g.tail links.now)) heap.old }
-    ensures { FilledAs (fillPages k.page (drop (g.tail - g.kept) (take g.tail links.now)) (record { heap = heap.entry.now; places = [] })) heap.exit.now result }
+    ensures { FilledAs (fill_pages k.page (drop (g.tail - g.kept) (take g.tail links.now)) (record { heap = heap.entry.now; places = [] })) heap.exit.now result }
 {
     let mut n: u32 = 0;
     let tail = g.tail as usize;

@@ -9,8 +9,8 @@ use native.Mathlib.Numerals.{add-one}
 use native.Mathlib.Omega.{arith}
 use lib.ListN.{set, replicate}
 use lib.Seq.{sets}
-use Rattle.rules.specs.Calls.{withObject}
-use Rattle.rules.specs.Header.{headerOf}
+use Rattle.rules.specs.Calls.{with_object}
+use Rattle.rules.specs.Header.{header_of}
 use Rattle.rules.specs.Lent.{Lent, lent, opening}
 use Rattle.rules.specs.Sound.{Valid}
 
@@ -21,11 +21,11 @@ abbrev pub zeros : List ℕ → ℕ → ℕ → List ℕ
 zeros h i e = sets h i (replicate (e - i) 0)
 
 module _ (h : List ℕ) (i e : ℕ) where
-  pub zeros-past : e ≤ i → zeros h i e ≡ h
-  zeros-past p = let z : e - i ≡ 0 = omega arith in rw z
+  pub zeros_past : e ≤ i → zeros h i e ≡ h
+  zeros_past p = let z : e - i ≡ 0 = omega arith in rw z
 
-  pub zeros-step : i < e → zeros h i e ≡ zeros (set h i 0) (i + 1) e
-  zeros-step p = let z : e - i ≡ suc (e - (i + 1)) = omega arith in rw (z, add-one i)
+  pub zeros_step : i < e → zeros h i e ≡ zeros (set h i 0) (i + 1) e
+  zeros_step p = let z : e - i ≡ suc (e - (i + 1)) = omega arith in rw (z, add-one i)
 
 -- an object put down: its header, and zeros behind it
 pub put_is : (h : List ℕ) (a d w v : ℕ) → w ≡ v → zeros (set h a w) (a + 1) (a + 1 + d) ≡ sets h a (v ∷ replicate d 0)
@@ -41,7 +41,7 @@ label_small m v = go v.label
     go (inr e) = omega arith
 
 -- an object at the first word of a page
-pub object-first : (m : Lent) (g d p : ℕ) (labels : List ℕ)
-    → withObject m g 0 d p labels ≡ lent (sets m.heap (g * m.rec.page) (headerOf d p ∷ replicate d 0)) labels m.links (opening m.rec g (d + 1))
-unfolding withObject
-object-first m g d p labels = rw (add-zero (g * m.rec.page), zero-add (d + 1))
+pub object_first : (m : Lent) (g d p : ℕ) (labels : List ℕ)
+    → with_object m g 0 d p labels ≡ lent (sets m.heap (g * m.rec.page) (header_of d p ∷ replicate d 0)) labels m.links (opening m.rec g (d + 1))
+unfolding with_object
+object_first m g d p labels = rw (add-zero (g * m.rec.page), zero-add (d + 1))

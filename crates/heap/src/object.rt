@@ -1,7 +1,7 @@
 // The words of an object, put down: by allocate, and by a collection for its fillers (`fillers`). This is no call for users.
 ghost use Rattle.std.specs.Prelude.{◌≡◌, ◌∷◌, replicate};
 ghost use Rattle.std.proofs.lemmas.List.Edits.{sets};
-ghost use Rattle.rules.specs.Header.{headerOf};
+ghost use Rattle.rules.specs.Header.{header_of};
 ghost use Rattle.heap.specs.Code.{Room};
 
 use numbers::header;
@@ -10,7 +10,7 @@ use numbers::header;
 // there is room.
 pub fn put(heap: &mut [u32], address: usize, d: u32, p: u32)
     requires { Room heap.old address d p }
-    ensures { heap.new ≡ sets heap.old address (headerOf d p ∷ replicate d 0) }
+    ensures { heap.new ≡ sets heap.old address (header_of d p ∷ replicate d 0) }
 {
     heap[address] = header::header_of(d, p) as u32;
     let mut i = address + 1;

@@ -8,5 +8,5 @@ abbrev pub plan : Shape → Plan
 plan k = record { page = k.page; lo = 1; hi = k.pages; old = k.old; new = k.new; logs = plainly }
 
 -- while the hints are read: n pages have joined, and there is no copy page
-abbrev pub hintedOf : Shape → List ℕ → List ℕ → ℕ → Pages
-hintedOf k labels links n = record { labels = labels; queue = take n links; copy = 0; fill = k.page; kept = 0 }
+abbrev pub hinted_of : Shape → List ℕ → List ℕ → ℕ → Pages
+hinted_of k labels links n = record { labels = labels; queue = take n links; copy = 0; fill = k.page; kept = 0 }

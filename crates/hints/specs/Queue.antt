@@ -7,8 +7,8 @@ pub record Queued (labels links : List ℕ) (n : ℕ) : Type 0 where
   pub each : length links ≡ length labels
   pub tail : n ≤ length links
 
-pub queue-longer : (links : List ℕ) (t g : ℕ) → t < length links → take (t + 1) (set links t g) ≡ take t links ++ (g ∷ [])
-queue-longer links t g h = rw (add-one t) (take-suc-set links t g h)
+pub queue_longer : (links : List ℕ) (t g : ℕ) → t < length links → take (t + 1) (set links t g) ≡ take t links ++ (g ∷ [])
+queue_longer links t g h = rw (add-one t) (take-suc-set links t g h)
 
-pub queue-length : (links : List ℕ) (t : ℕ) → t ≤ length links → length (take t links) ≡ t
-queue-length links t h = rw length-take (omega arith)
+pub queue_length : (links : List ℕ) (t : ℕ) → t ≤ length links → length (take t links) ≡ t
+queue_length links t h = rw length-take (omega arith)

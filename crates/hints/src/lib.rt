@@ -3,10 +3,10 @@
 // are no calls for users: they are safe only where tests of collect have passed, and their `requires` say
 // so, as in `phases`.
 ghost use Rattle.std.specs.Prelude.{◌≡◌, [], ◌∷◌, ◌++◌, ◌+◌, ◌≤◌, ◌<◌, length, set, take};
-ghost use Rattle.rules.specs.Pages.{pagesOfHint, pagesNamed};
-ghost use Rattle.rules.specs.Collection.{hintPage, hintPages};
+ghost use Rattle.rules.specs.Pages.{pages_of_hint, pages_named};
+ghost use Rattle.rules.specs.Collection.{hint_page, hint_pages};
 ghost use Rattle.laws.specs.Safe.{SafeHint, SafeHints};
-ghost use Rattle.hints.specs.Code.{plan, hintedOf};
+ghost use Rattle.hints.specs.Code.{plan, hinted_of};
 ghost use Rattle.hints.specs.Queue.{Queued};
 
 use layout::record;
@@ -39,10 +39,10 @@ pub fn join(labels: &mut [u16], links: &mut [u16], k: Shape, queued: u32, page: 
 // The queue's length once `page` is named, 0 for none. Page 0 never has the old label, nor has a page that
 // was named before.
 fn hint_page(labels: &mut [u16], links: &mut [u16], k: Shape, queued: u32, page: u32) -> u32
-    requires safe_hint { SafeHint (plan k) (hintedOf k labels.old links.old queued) }
+    requires safe_hint { SafeHint (plan k) (hinted_of k labels.old links.old queued) }
     requires queued { Queued labels.old links.old queued }
     requires page_lt_pages { page < k.pages }
-    ensures result_after { hintedOf k labels.new links.new result ≡ hintPage (plan k) page (hintedOf k labels.old links.old queued) }
+    ensures result_after { hinted_of k labels.new links.new result ≡ hint_page (plan k) page (hinted_of k labels.old links.old queued) }
     ensures queued_2 { Queued labels.new links.new result }
 {
     if record::label_at(labels, page as usize) != k.old {
@@ -53,9 +53,9 @@ fn hint_page(labels: &mut [u16], links: &mut [u16], k: Shape, queued: u32, page:
 
 // One hint word: its own page, and then that of the word before. Unless the word begins a page they are one.
 fn hint_word(labels: &mut [u16], links: &mut [u16], k: Shape, queued: u32, word: u32) -> u32
-    requires safe_hints { SafeHints (plan k) (pagesOfHint k.page 1 k.pages word) (hintedOf k labels.old links.old queued) }
+    requires safe_hints { SafeHints (plan k) (pages_of_hint k.page 1 k.pages word) (hinted_of k labels.old links.old queued) }
     requires queued { Queued labels.old links.old queued }
-    ensures result_after { hintedOf k labels.new links.new result ≡ hintPages (plan k) (pagesOfHint k.page 1 k.pages word) (hintedOf k labels.old links.old queued) }
+    ensures result_after { hinted_of k labels.new links.new result ≡ hint_pages (plan k) (pages_of_hint k.page 1 k.pages word) (hinted_of k labels.old links.old queued) }
     ensures queued_2 { Queued labels.new links.new result }
 {
     let own = pages::page_named(k.page, 1, k.pages, word);
@@ -69,9 +69,9 @@ fn hint_word(labels: &mut [u16], links: &mut [u16], k: Shape, queued: u32, word:
 
 // Each hint word, in order. The words stay as they are.
 pub fn hint_words(labels: &mut [u16], links: &mut [u16], k: Shape, hints: &[u32]) -> u32
-    requires safe_hints { SafeHints (plan k) (pagesNamed k.page 1 k.pages hints.now) (hintedOf k labels.old links.old 0) }
+    requires safe_hints { SafeHints (plan k) (pages_named k.page 1 k.pages hints.now) (hinted_of k labels.old links.old 0) }
     requires links_len { length links.old ≡ length labels.old }
-    ensures result_after { hintedOf k labels.new links.new result ≡ hintPages (plan k) (pagesNamed k.page 1 k.pages hints.now) (hintedOf k labels.old links.old 0) }
+    ensures result_after { hinted_of k labels.new links.new result ≡ hint_pages (plan k) (pages_named k.page 1 k.pages hints.now) (hinted_of k labels.old links.old 0) }
     ensures queued { Queued labels.new links.new result }
 {
     let mut queued = 0;

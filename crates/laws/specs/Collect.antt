@@ -4,50 +4,50 @@ use Rattle.std.proofs.Math.Path.{sym, ap}
 use Rattle.std.proofs.Common.{◌∙◌, arith, eq-eqb, ne_eqb}
 use Rattle.std.proofs.Math.Decide.{ℕ_discrete}
 use Rattle.rules.specs.Ranges.{each}
-use Rattle.rules.specs.Lent.{Lent, isValid}
-use Rattle.rules.specs.Walk.{isReference}
-use Rattle.rules.specs.Sound.{isSound, Sound}
+use Rattle.rules.specs.Lent.{Lent, is_valid}
+use Rattle.rules.specs.Walk.{is_reference}
+use Rattle.rules.specs.Sound.{is_sound, Sound}
 use Rattle.rules.specs.Collection.{plainly, collection}
-use Rattle.rules.specs.Collect.{CollectOutcome, refusalOfCollect, acceptedCollect, refusedCollect, collect}
+use Rattle.rules.specs.Collect.{CollectOutcome, refusal_of_collect, accepted_collect, refused_collect, collect}
 use Rattle.rules.specs.Demands.{GoodRoots}
-use Rattle.laws.specs.Lists.{each-true, true-each}
-use Rattle.laws.specs.Valid.{valid-is}
-use Rattle.laws.specs.LookUp.{reference-says, reference-is}
-use Rattle.laws.specs.Sound.{sound-says, sound-is}
+use Rattle.laws.specs.Lists.{each_true, true_each}
+use Rattle.laws.specs.Valid.{valid_is}
+use Rattle.laws.specs.LookUp.{reference_says, reference_is}
+use Rattle.laws.specs.Sound.{sound_says, sound_is}
 
 -- all that a collection asks for
 pub record Ready (m : Lent) (cells : List ℕ) : Type 0 where
   pub sound : Sound m
   pub roots : GoodRoots m cells
 
-pub ready-says : (m : Lent) (cells : List ℕ) → refusalOfCollect m cells ≡ 0 → Ready m cells
-unfolding refusalOfCollect
-ready-says m cells = go (isValid m) (isSound m) refl (each (isReference m) cells) refl
+pub ready_says : (m : Lent) (cells : List ℕ) → refusal_of_collect m cells ≡ 0 → Ready m cells
+unfolding refusal_of_collect
+ready_says m cells = go (is_valid m) (is_sound m) refl (each (is_reference m) cells) refl
   where
-    go : (x y : Bool) → isSound m ≡ y → (z : Bool) → each (isReference m) cells ≡ z → ◌≡◌ {A = ℕ} (cond x (cond y (cond z 0 6) 7) 1) 0 → Ready m cells
+    go : (x y : Bool) → is_sound m ≡ y → (z : Bool) → each (is_reference m) cells ≡ z → ◌≡◌ {A = ℕ} (cond x (cond y (cond z 0 6) 7) 1) 0 → Ready m cells
     go false y b z d q = absurd (omega arith)
     go true false b z d q = absurd (omega arith)
     go true true b false d q = absurd (omega arith)
-    go true true b true d q = record { sound = sound-says m b; roots = λ r k. reference-says m r (each-true (isReference m) cells d r k) }
+    go true true b true d q = record { sound = sound_says m b; roots = λ r k. reference_says m r (each_true (is_reference m) cells d r k) }
 
-pub ready-is : (m : Lent) (cells : List ℕ) → Ready m cells → refusalOfCollect m cells ≡ 0
-unfolding refusalOfCollect
-ready-is m cells R = rw (valid-is m R.sound.valid, sound-is m R.sound, true-each (isReference m) cells (λ r k. reference-is m r (R.roots r k)))
+pub ready_is : (m : Lent) (cells : List ℕ) → Ready m cells → refusal_of_collect m cells ≡ 0
+unfolding refusal_of_collect
+ready_is m cells R = rw (valid_is m R.sound.valid, sound_is m R.sound, true_each (is_reference m) cells (λ r k. reference_is m r (R.roots r k)))
 
 module _ (m : Lent) (roots hints : List ℕ) where
-  pub collect-accepts : refusalOfCollect m roots ≡ 0 → collect m roots hints ≡ acceptedCollect (collection plainly m roots hints)
+  pub collect_accepts : refusal_of_collect m roots ≡ 0 → collect m roots hints ≡ accepted_collect (collection plainly m roots hints)
   unfolding collect
-  collect-accepts e = rw (eq-eqb (refusalOfCollect m roots) 0 e)
+  collect_accepts e = rw (eq-eqb (refusal_of_collect m roots) 0 e)
 
-  pub collect-refuses : refusalOfCollect m roots ≢ 0 → collect m roots hints ≡ refusedCollect (refusalOfCollect m roots) m roots
+  pub collect_refuses : refusal_of_collect m roots ≢ 0 → collect m roots hints ≡ refused_collect (refusal_of_collect m roots) m roots
   unfolding collect
-  collect-refuses n = rw (ne_eqb (refusalOfCollect m roots) 0 n)
+  collect_refuses n = rw (ne_eqb (refusal_of_collect m roots) 0 n)
 
   -- the number that the call answers is that of the tests
-  pub collect-refusal : (collect m roots hints).refusal ≡ refusalOfCollect m roots
-  unfolding acceptedCollect refusedCollect
-  collect-refusal = go (ℕ_discrete (refusalOfCollect m roots) 0)
+  pub collect_refusal : (collect m roots hints).refusal ≡ refusal_of_collect m roots
+  unfolding accepted_collect refused_collect
+  collect_refusal = go (ℕ_discrete (refusal_of_collect m roots) 0)
     where
-      go : Dec (refusalOfCollect m roots ≡ 0) → (collect m roots hints).refusal ≡ refusalOfCollect m roots
-      go (yes e) = ap (λ (o : CollectOutcome). o.refusal) (collect-accepts e) ∙ sym e
-      go (no n) = ap (λ (o : CollectOutcome). o.refusal) (collect-refuses n)
+      go : Dec (refusal_of_collect m roots ≡ 0) → (collect m roots hints).refusal ≡ refusal_of_collect m roots
+      go (yes e) = ap (λ (o : CollectOutcome). o.refusal) (collect_accepts e) ∙ sym e
+      go (no n) = ap (λ (o : CollectOutcome). o.refusal) (collect_refuses n)

@@ -16,12 +16,12 @@ use Rattle.rules.specs.Tests.{and_left, and_right, and_is}
 use Rattle.rules.specs.Ranges.{at}
 use Rattle.rules.specs.Header.{size_of}
 use Rattle.rules.specs.Lent.{Lent}
-use Rattle.rules.specs.Walk.{starts, isInUse, landing, found}
+use Rattle.rules.specs.Walk.{starts, is_in_use, landing, found}
 use Rattle.rules.specs.Sound.{InUse, IsObject}
 use Rattle.rules.specs.Demands.{LiesInside}
-use Rattle.laws.specs.Walk.{page-steps, met}
-use Rattle.laws.specs.LookUp.{in-use-says, in-use-is, found-object}
-use Rattle.laws.specs.Objects.{met-object, object-page, objects-apart}
+use Rattle.laws.specs.Walk.{page_steps, met}
+use Rattle.laws.specs.LookUp.{in_use_says, in_use_is, found_object}
+use Rattle.laws.specs.Objects.{met_object, object_page, objects_apart}
 
 -- what is found differs in kind
 abbrev kind : Found → ℕ
@@ -36,10 +36,10 @@ abbrev holds : List ℕ → ℕ → ℕ → Bool
 holds h a x = ltb x a && ltb a (x + size_of (at h x))
 
 module _ (h : List ℕ) (a : ℕ) where
-  landing-inside : (s : ℕ) (xs : List ℕ) → landing h a xs ≡ Inside s → Memᴰ s xs × (holds h a s ≡ true)
+  landing_inside : (s : ℕ) (xs : List ℕ) → landing h a xs ≡ Inside s → Memᴰ s xs × (holds h a s ≡ true)
   unfolding landing
-  landing-inside s [] e = absurd (omega (arith, ap kind e))
-  landing-inside s (x ∷ xs) e = go (eqb a x) (holds h a x) refl e (landing-inside s xs)
+  landing_inside s [] e = absurd (omega (arith, ap kind e))
+  landing_inside s (x ∷ xs) e = go (eqb a x) (holds h a x) refl e (landing_inside s xs)
     where
       same : Inside x ≡ Inside s → x ≡ s
       same e = cc
@@ -50,10 +50,10 @@ module _ (h : List ℕ) (a : ℕ) where
       go false true q e ih = (Memᴰ.head (sym (same e)), ap (holds h a) (sym (same e)) ∙ q)
       go false false q e ih = let (k, t) = ih e in (Memᴰ.tail k, t)
 
-  landing-nothing : (xs : List ℕ) → landing h a xs ≡ Nothing → (s : ℕ) → Memᴰ s xs → (a ≢ s) × (holds h a s ≡ false)
+  landing_nothing : (xs : List ℕ) → landing h a xs ≡ Nothing → (s : ℕ) → Memᴰ s xs → (a ≢ s) × (holds h a s ≡ false)
   unfolding landing
-  landing-nothing [] e s k = absurd (Memᴰ.not-nil k)
-  landing-nothing (x ∷ xs) e s k = go (eqb a x) (holds h a x) refl refl e (Memᴰ.cases_cons k) (λ t j. landing-nothing xs t s j)
+  landing_nothing [] e s k = absurd (Memᴰ.not-nil k)
+  landing_nothing (x ∷ xs) e s k = go (eqb a x) (holds h a x) refl refl e (Memᴰ.cases_cons k) (λ t j. landing_nothing xs t s j)
     where
       go : (b i : Bool) → eqb a x ≡ b → holds h a x ≡ i → cond b (Start (at h x)) (cond i (Inside x) (landing h a xs)) ≡ Nothing → (s ≡ x) ⊎ Memᴰ s xs
           → (landing h a xs ≡ Nothing → Memᴰ s xs → (a ≢ s) × (holds h a s ≡ false)) → (a ≢ s) × (holds h a s ≡ false)
@@ -69,9 +69,9 @@ abbrev pub Apart : Lent → ℕ → ℕ → Type 0
 Apart m a s = (a < s) ⊎ (s + size_of (at m.heap s) ≤ a)
 
 -- which no word of the object is
-not-apart : (m : Lent) (a s : ℕ) → s ≤ a → a < s + size_of (at m.heap s) → Apart m a s → ⊥
-not-apart m a s p q (inl l) = omega arith
-not-apart m a s p q (inr l) = omega arith
+not_apart : (m : Lent) (a s : ℕ) → s ≤ a → a < s + size_of (at m.heap s) → Apart m a s → ⊥
+not_apart m a s p q (inl l) = omega arith
+not_apart m a s p q (inr l) = omega arith
 
 -- where a page from 1 on is in use, pages have words
 used_pos : (m : Lent) (a : ℕ) → InUse m (a / m.rec.page) → 0 < m.rec.page
@@ -87,13 +87,13 @@ used_pos m a u = go (ℕ_discrete m.rec.page 0)
 module _ (m : Lent) (a : ℕ) where
   pub found_inside : (s : ℕ) → found m a ≡ Inside s → LiesInside m a s
   unfolding found
-  found_inside s e = go (isInUse m (a / m.rec.page)) refl e
+  found_inside s e = go (is_in_use m (a / m.rec.page)) refl e
     where
-      go : (b : Bool) → isInUse m (a / m.rec.page) ≡ b → cond b (landing m.heap a (starts m (a / m.rec.page))) Nothing ≡ Inside s → LiesInside m a s
+      go : (b : Bool) → is_in_use m (a / m.rec.page) ≡ b → cond b (landing m.heap a (starts m (a / m.rec.page))) Nothing ≡ Inside s → LiesInside m a s
       go true u e =
-          let U = in-use-says m (a / m.rec.page) u in
-          let (k, t) = landing-inside m.heap a s (starts m (a / m.rec.page)) e in
-          record { object = met-object m (used_pos m a U) (a / m.rec.page) s U k; behind = ltb-true s a (and_left _ _ t); before = ltb-true _ _ (and_right (ltb s a) _ t) }
+          let U = in_use_says m (a / m.rec.page) u in
+          let (k, t) = landing_inside m.heap a s (starts m (a / m.rec.page)) e in
+          record { object = met_object m (used_pos m a U) (a / m.rec.page) s U k; behind = ltb-true s a (and_left _ _ t); before = ltb-true _ _ (and_right (ltb s a) _ t) }
       go false u e = absurd (omega (arith, ap kind e))
 
   pub found_nothing : found m a ≡ Nothing → (s : ℕ) → IsObject m s → Apart m a s
@@ -102,13 +102,13 @@ module _ (m : Lent) (a : ℕ) where
     where
       -- it would be on a's page, and met there
       here : s ≤ a → a < s + size_of (at m.heap s) → Apart m a s
-      here l h = absurd (tell (landing-nothing m.heap a (starts m (a / m.rec.page)) none s (subst (λ (g : ℕ). Memᴰ s (starts m g)) (sym page) o.met)))
+      here l h = absurd (tell (landing_nothing m.heap a (starts m (a / m.rec.page)) none s (subst (λ (g : ℕ). Memᴰ s (starts m g)) (sym page) o.met)))
         where
           page : a / m.rec.page ≡ s / m.rec.page
-          page = let z : a ≡ s + (a - s) = omega arith in ap (λ (w : ℕ). w / m.rec.page) z ∙ object-page m (used_pos m s o.inUse) s (a - s) o (omega arith)
+          page = let z : a ≡ s + (a - s) = omega arith in ap (λ (w : ℕ). w / m.rec.page) z ∙ object_page m (used_pos m s o.in_use) s (a - s) o (omega arith)
 
           none : landing m.heap a (starts m (a / m.rec.page)) ≡ Nothing
-          none = let u : isInUse m (a / m.rec.page) ≡ true = ap (isInUse m) page ∙ in-use-is m _ o.inUse in (rw u at e)
+          none = let u : is_in_use m (a / m.rec.page) ≡ true = ap (is_in_use m) page ∙ in_use_is m _ o.in_use in (rw u at e)
 
           tell : (a ≢ s) × (holds m.heap a s ≡ false) → ⊥
           tell (n, q) = true≢false (sym (and_is (lt-ltb s a (omega arith)) (lt-ltb _ _ h)) ∙ q)
@@ -123,22 +123,22 @@ module _ (m : Lent) (a : ℕ) where
   inside_found s L = go (found m a) refl
     where
       pos : 0 < m.rec.page
-      pos = used_pos m s L.object.inUse
+      pos = used_pos m s L.object.in_use
 
       one : (t : ℕ) → LiesInside m a t → Dec (s < t) → Dec (t < s) → t ≡ s
-      one t K (yes l) d = absurd (omega (arith, objects-apart m pos s t L.object K.object l, L.before, K.behind))
-      one t K (no n) (yes l) = absurd (omega (arith, objects-apart m pos t s K.object L.object l, K.before, L.behind))
+      one t K (yes l) d = absurd (omega (arith, objects_apart m pos s t L.object K.object l, L.before, K.behind))
+      one t K (no n) (yes l) = absurd (omega (arith, objects_apart m pos t s K.object L.object l, K.before, L.behind))
       one t K (no n) (no k) = omega arith
 
       go : (f : Found) → found m a ≡ f → f ≡ Inside s
-      go (Start w) e = absurd (omega (arith, objects-apart m pos s a L.object (found-object m a w e).0 L.behind, L.before))
+      go (Start w) e = absurd (omega (arith, objects_apart m pos s a L.object (found_object m a w e).0 L.behind, L.before))
       go (Inside t) e = ap Inside (one t (found_inside t e) (dec_lt s t) (dec_lt t s))
-      go Nothing e = absurd (not-apart m a s (omega (arith, L.behind)) L.before (found_nothing e s L.object))
+      go Nothing e = absurd (not_apart m a s (omega (arith, L.behind)) L.before (found_nothing e s L.object))
 
-  pub nothing-found : ((s : ℕ) → IsObject m s → Apart m a s) → found m a ≡ Nothing
-  nothing-found none = go (found m a) refl
+  pub nothing_found : ((s : ℕ) → IsObject m s → Apart m a s) → found m a ≡ Nothing
+  nothing_found none = go (found m a) refl
     where
       go : (f : Found) → found m a ≡ f → f ≡ Nothing
-      go (Start w) e = let o = (found-object m a w e).0 in absurd (not-apart m a a (omega arith) (omega (arith, (met m.heap (page-steps m (a / m.rec.page)) a o.met).header.shape)) (none a o))
-      go (Inside s) e = let L = found_inside s e in absurd (not-apart m a s (omega (arith, L.behind)) L.before (none s L.object))
+      go (Start w) e = let o = (found_object m a w e).0 in absurd (not_apart m a a (omega arith) (omega (arith, (met m.heap (page_steps m (a / m.rec.page)) a o.met).header.shape)) (none a o))
+      go (Inside s) e = let L = found_inside s e in absurd (not_apart m a s (omega (arith, L.behind)) L.before (none s L.object))
       go Nothing e = refl

@@ -10,147 +10,147 @@ use Rattle.rules.specs.Ranges.{from, block, each, has, count, sum, first}
 
 -- ---- ranges
 
-pub block-past : (i hi : ℕ) → hi ≤ i → block i hi ≡ []
+pub block_past : (i hi : ℕ) → hi ≤ i → block i hi ≡ []
 unfolding block from
-block-past i hi p = let z : hi - i ≡ 0 = omega arith in rw z
+block_past i hi p = let z : hi - i ≡ 0 = omega arith in rw z
 
-pub block-step : (i hi : ℕ) → i < hi → block i hi ≡ i ∷ block (i + 1) hi
+pub block_step : (i hi : ℕ) → i < hi → block i hi ≡ i ∷ block (i + 1) hi
 unfolding block from
-block-step i hi p = let z : hi - i ≡ suc (hi - (i + 1)) = omega arith in rw (z, add-one i)
+block_step i hi p = let z : hi - i ≡ suc (hi - (i + 1)) = omega arith in rw (z, add-one i)
 
 -- past the smaller of two ends is past one of them
 pub past_one : {a b r : ℕ} → (a ≤ r) ⊎ (b ≤ r) → {x : ℕ} → r ≤ x → (a ≤ x) ⊎ (b ≤ x)
 past_one (inl h) p = inl (omega arith)
 past_one (inr h) p = inr (omega arith)
 
-from-mem : (n lo x : ℕ) → lo ≤ x → x < lo + n → Memᴰ x (from lo n)
+from_mem : (n lo x : ℕ) → lo ≤ x → x < lo + n → Memᴰ x (from lo n)
 unfolding from
-from-mem zero lo x a b = absurd (omega arith)
-from-mem (suc n) lo x a b = go (eqb x lo) refl (from-mem n (suc lo) x)
+from_mem zero lo x a b = absurd (omega arith)
+from_mem (suc n) lo x a b = go (eqb x lo) refl (from_mem n (suc lo) x)
   where
     go : (t : Bool) → eqb x lo ≡ t → (suc lo ≤ x → x < suc lo + n → Memᴰ x (from (suc lo) n)) → Memᴰ x (lo ∷ from (suc lo) n)
     go true e ih = Memᴰ.head (eqb-true x lo e)
     go false e ih = Memᴰ.tail (ih (let n = eqb-false x lo e in omega arith) (omega arith))
 
-mem-from : (n lo x : ℕ) → Memᴰ x (from lo n) → (lo ≤ x) × (x < lo + n)
+mem_from : (n lo x : ℕ) → Memᴰ x (from lo n) → (lo ≤ x) × (x < lo + n)
 unfolding from
-mem-from zero lo x k = absurd (Memᴰ.not-nil k)
-mem-from (suc n) lo x k = go (mem-from n (suc lo) x) (Memᴰ.cases_cons k)
+mem_from zero lo x k = absurd (Memᴰ.not-nil k)
+mem_from (suc n) lo x k = go (mem_from n (suc lo) x) (Memᴰ.cases_cons k)
   where
     go : (Memᴰ x (from (suc lo) n) → (suc lo ≤ x) × (x < suc lo + n)) → (x ≡ lo) ⊎ Memᴰ x (from (suc lo) n) → (lo ≤ x) × (x < lo + suc n)
     go ih (inl e) = (omega arith, omega arith)
     go ih (inr j) = let q = ih j in (omega (arith, q.0), omega (arith, q.1))
 
-pub block-mem : (lo hi x : ℕ) → lo ≤ x → x < hi → Memᴰ x (block lo hi)
+pub block_mem : (lo hi x : ℕ) → lo ≤ x → x < hi → Memᴰ x (block lo hi)
 unfolding block
-block-mem lo hi x a b = from-mem (hi - lo) lo x a (omega arith)
+block_mem lo hi x a b = from_mem (hi - lo) lo x a (omega arith)
 
-pub mem-block : (lo hi x : ℕ) → Memᴰ x (block lo hi) → (lo ≤ x) × (x < hi)
+pub mem_block : (lo hi x : ℕ) → Memᴰ x (block lo hi) → (lo ≤ x) × (x < hi)
 unfolding block
-mem-block lo hi x k = let q = mem-from (hi - lo) lo x k in (q.0, omega (arith, q.0, q.1))
+mem_block lo hi x k = let q = mem_from (hi - lo) lo x k in (q.0, omega (arith, q.0, q.1))
 
 -- ---- a test at each member
 
-pub each-true : (f : ℕ → Bool) (xs : List ℕ) → each f xs ≡ true → (x : ℕ) → Memᴰ x xs → f x ≡ true
+pub each_true : (f : ℕ → Bool) (xs : List ℕ) → each f xs ≡ true → (x : ℕ) → Memᴰ x xs → f x ≡ true
 unfolding each
-each-true f [] e x m = absurd (Memᴰ.not-nil m)
-each-true f (y ∷ xs) e x m = go (each-true f xs (and_right (f y) (each f xs) e) x) (Memᴰ.cases_cons m)
+each_true f [] e x m = absurd (Memᴰ.not-nil m)
+each_true f (y ∷ xs) e x m = go (each_true f xs (and_right (f y) (each f xs) e) x) (Memᴰ.cases_cons m)
   where
     go : (Memᴰ x xs → f x ≡ true) → (x ≡ y) ⊎ Memᴰ x xs → f x ≡ true
     go ih (inl q) = ap f q ∙ and_left (f y) (each f xs) e
     go ih (inr k) = ih k
 
-pub true-each : (f : ℕ → Bool) (xs : List ℕ) → ((x : ℕ) → Memᴰ x xs → f x ≡ true) → each f xs ≡ true
+pub true_each : (f : ℕ → Bool) (xs : List ℕ) → ((x : ℕ) → Memᴰ x xs → f x ≡ true) → each f xs ≡ true
 unfolding each
-true-each f [] h = refl
-true-each f (y ∷ xs) h = rw (h y (Memᴰ.head refl)) (true-each f xs (λ x m. h x (Memᴰ.tail m)))
+true_each f [] h = refl
+true_each f (y ∷ xs) h = rw (h y (Memᴰ.head refl)) (true_each f xs (λ x m. h x (Memᴰ.tail m)))
 
 -- what a loop over the range meets
 module _ (f : ℕ → Bool) (i hi : ℕ) where
-  pub each-past : hi ≤ i → each f (block i hi) ≡ true
+  pub each_past : hi ≤ i → each f (block i hi) ≡ true
   unfolding each
-  each-past p = rw (block-past i hi p)
+  each_past p = rw (block_past i hi p)
 
-  pub each-no : i < hi → f i ≡ false → each f (block i hi) ≡ false
+  pub each_no : i < hi → f i ≡ false → each f (block i hi) ≡ false
   unfolding each
-  each-no p q = rw (block-step i hi p, q)
+  each_no p q = rw (block_step i hi p, q)
 
-  pub each-yes : i < hi → f i ≡ true → each f (block i hi) ≡ each f (block (i + 1) hi)
+  pub each_yes : i < hi → f i ≡ true → each f (block i hi) ≡ each f (block (i + 1) hi)
   unfolding each
-  each-yes p q = rw (block-step i hi p, q)
+  each_yes p q = rw (block_step i hi p, q)
 
 -- the test of each passes at every place from lo to hi - 1
-pub each-block : (f : ℕ → Bool) (lo hi : ℕ) → each f (block lo hi) ≡ true → (i : ℕ) → lo ≤ i → i < hi → f i ≡ true
-each-block f lo hi e i a b = each-true f (block lo hi) e i (block-mem lo hi i a b)
+pub each_block : (f : ℕ → Bool) (lo hi : ℕ) → each f (block lo hi) ≡ true → (i : ℕ) → lo ≤ i → i < hi → f i ≡ true
+each_block f lo hi e i a b = each_true f (block lo hi) e i (block_mem lo hi i a b)
 
-pub block-each : (f : ℕ → Bool) (lo hi : ℕ) → ((i : ℕ) → lo ≤ i → i < hi → f i ≡ true) → each f (block lo hi) ≡ true
-block-each f lo hi h = true-each f (block lo hi) (λ i k. let q = mem-block lo hi i k in h i q.0 q.1)
+pub block_each : (f : ℕ → Bool) (lo hi : ℕ) → ((i : ℕ) → lo ≤ i → i < hi → f i ≡ true) → each f (block lo hi) ≡ true
+block_each f lo hi h = true_each f (block lo hi) (λ i k. let q = mem_block lo hi i k in h i q.0 q.1)
 
 -- ---- membership
 
-pub has-mem : (a : ℕ) (xs : List ℕ) → has a xs ≡ true → Memᴰ a xs
+pub has_mem : (a : ℕ) (xs : List ℕ) → has a xs ≡ true → Memᴰ a xs
 unfolding has
-has-mem a [] e = absurd (true≢false (sym e))
-has-mem a (x ∷ xs) e = go (eqb a x) refl (has-mem a xs) e
+has_mem a [] e = absurd (true≢false (sym e))
+has_mem a (x ∷ xs) e = go (eqb a x) refl (has_mem a xs) e
   where
     go : (b : Bool) → eqb a x ≡ b → (has a xs ≡ true → Memᴰ a xs) → (b || has a xs) ≡ true → Memᴰ a (x ∷ xs)
     go true q ih t = Memᴰ.head (eqb-true a x q)
     go false q ih t = Memᴰ.tail (ih t)
 
-pub mem-has : (a : ℕ) (xs : List ℕ) → Memᴰ a xs → has a xs ≡ true
+pub mem_has : (a : ℕ) (xs : List ℕ) → Memᴰ a xs → has a xs ≡ true
 unfolding has
-mem-has a [] m = absurd (Memᴰ.not-nil m)
-mem-has a (x ∷ xs) m = go (eqb a x) refl (mem-has a xs) (Memᴰ.cases_cons m)
+mem_has a [] m = absurd (Memᴰ.not-nil m)
+mem_has a (x ∷ xs) m = go (eqb a x) refl (mem_has a xs) (Memᴰ.cases_cons m)
   where
     go : (b : Bool) → eqb a x ≡ b → (Memᴰ a xs → has a xs ≡ true) → (a ≡ x) ⊎ Memᴰ a xs → (b || has a xs) ≡ true
     go true q ih c = refl
     go false q ih (inl e) = absurd (eqb-false a x q e)
     go false q ih (inr k) = ih k
 
-or-behind : {v x y : ℕ} {l : List ℕ} → (x ≡ v) ⊎ Memᴰ x l → (x ≡ v) ⊎ Memᴰ x (y ∷ l)
-or-behind (inl e) = inl e
-or-behind (inr k) = inr (Memᴰ.tail k)
+or_behind : {v x y : ℕ} {l : List ℕ} → (x ≡ v) ⊎ Memᴰ x l → (x ≡ v) ⊎ Memᴰ x (y ∷ l)
+or_behind (inl e) = inl e
+or_behind (inr k) = inr (Memᴰ.tail k)
 
 -- a member after a store is the number stored, or was one before
-pub mem-set : (l : List ℕ) (i v x : ℕ) → Memᴰ x (set l i v) → (x ≡ v) ⊎ Memᴰ x l
-mem-set [] i v x k = inr k
-mem-set (y ∷ l) zero v x k = or-behind (Memᴰ.cases_cons k)
-mem-set (y ∷ l) (suc i) v x k = go (mem-set l i v x) (Memᴰ.cases_cons k)
+pub mem_set : (l : List ℕ) (i v x : ℕ) → Memᴰ x (set l i v) → (x ≡ v) ⊎ Memᴰ x l
+mem_set [] i v x k = inr k
+mem_set (y ∷ l) zero v x k = or_behind (Memᴰ.cases_cons k)
+mem_set (y ∷ l) (suc i) v x k = go (mem_set l i v x) (Memᴰ.cases_cons k)
   where
     go : (Memᴰ x (set l i v) → (x ≡ v) ⊎ Memᴰ x l) → (x ≡ y) ⊎ Memᴰ x (set l i v) → (x ≡ v) ⊎ Memᴰ x (y ∷ l)
     go ih (inl e) = inr (Memᴰ.head e)
-    go ih (inr q) = or-behind (ih q)
+    go ih (inr q) = or_behind (ih q)
 
 -- ---- how many, and the first
 
 module _ (f : ℕ → Bool) (i hi : ℕ) where
   pub count_past : hi ≤ i → count f (block i hi) ≡ 0
   unfolding count
-  count_past p = rw (block-past i hi p)
+  count_past p = rw (block_past i hi p)
 
   pub count_yes : i < hi → f i ≡ true → count f (block i hi) ≡ 1 + count f (block (i + 1) hi)
   unfolding count
-  count_yes p q = rw (block-step i hi p, q)
+  count_yes p q = rw (block_step i hi p, q)
 
   pub count_no : i < hi → f i ≡ false → count f (block i hi) ≡ count f (block (i + 1) hi)
   unfolding count
-  count_no p q = rw (block-step i hi p, q) (omega arith)
+  count_no p q = rw (block_step i hi p, q) (omega arith)
 
   pub first_past : (e : ℕ) → hi ≤ i → first f (block i hi) e ≡ e
   unfolding first
-  first_past e p = rw (block-past i hi p)
+  first_past e p = rw (block_past i hi p)
 
-  pub first-here : (e : ℕ) → i < hi → f i ≡ true → first f (block i hi) e ≡ i
+  pub first_here : (e : ℕ) → i < hi → f i ≡ true → first f (block i hi) e ≡ i
   unfolding first
-  first-here e p q = rw (block-step i hi p, q)
+  first_here e p q = rw (block_step i hi p, q)
 
   pub first_step : (e : ℕ) → i < hi → f i ≡ false → first f (block i hi) e ≡ first f (block (i + 1) hi) e
   unfolding first
-  first_step e p q = rw (block-step i hi p, q)
+  first_step e p q = rw (block_step i hi p, q)
 
 pub count_none : (f : ℕ → Bool) (lo hi : ℕ) → ((x : ℕ) → lo ≤ x → x < hi → f x ≡ false) → count f (block lo hi) ≡ 0
 unfolding count
-count_none f lo hi h = none (block lo hi) (λ x k. let q = mem-block lo hi x k in h x q.0 q.1)
+count_none f lo hi h = none (block lo hi) (λ x k. let q = mem_block lo hi x k in h x q.0 q.1)
   where
     none : (xs : List ℕ) → ((x : ℕ) → Memᴰ x xs → f x ≡ false) → count f xs ≡ 0
     none [] h = refl
@@ -164,25 +164,25 @@ unfolding sum
 sum_same f e [] h = refl
 sum_same f e (x ∷ xs) h = rw (h x (Memᴰ.head refl), sum_same f e xs (λ y k. h y (Memᴰ.tail k)))
 
-pub sum-none : (f : ℕ → ℕ) (xs : List ℕ) → ((x : ℕ) → Memᴰ x xs → f x ≡ 0) → sum f xs ≡ 0
+pub sum_none : (f : ℕ → ℕ) (xs : List ℕ) → ((x : ℕ) → Memᴰ x xs → f x ≡ 0) → sum f xs ≡ 0
 unfolding sum
-sum-none f [] h = refl
-sum-none f (x ∷ xs) h = rw (h x (Memᴰ.head refl), sum-none f xs (λ y k. h y (Memᴰ.tail k)))
+sum_none f [] h = refl
+sum_none f (x ∷ xs) h = rw (h x (Memᴰ.head refl), sum_none f xs (λ y k. h y (Memᴰ.tail k)))
 
 -- those that pass a test, where none has more than n
-pub sum-most : (f : ℕ → Bool) (e : ℕ → ℕ) (n : ℕ) → ((x : ℕ) → e x ≤ n) → (xs : List ℕ) → sum (λ x. cond (f x) (e x) 0) xs ≤ count f xs * n
+pub sum_most : (f : ℕ → Bool) (e : ℕ → ℕ) (n : ℕ) → ((x : ℕ) → e x ≤ n) → (xs : List ℕ) → sum (λ x. cond (f x) (e x) 0) xs ≤ count f xs * n
 unfolding sum count
-sum-most f e n h [] = omega arith
-sum-most f e n h (x ∷ xs) = go (f x) (sum-most f e n h xs)
+sum_most f e n h [] = omega arith
+sum_most f e n h (x ∷ xs) = go (f x) (sum_most f e n h xs)
   where
     go : (b : Bool) → sum (λ x. cond (f x) (e x) 0) xs ≤ count f xs * n → cond b (e x) 0 + sum (λ x. cond (f x) (e x) 0) xs ≤ (cond b 1 0 + count f xs) * n
     go true ih = omega (arith, h x)
     go false ih = omega arith
 
-pub count-le : (f : ℕ → Bool) (xs : List ℕ) → count f xs ≤ length xs
+pub count_le : (f : ℕ → Bool) (xs : List ℕ) → count f xs ≤ length xs
 unfolding count
-count-le f [] = omega arith
-count-le f (x ∷ xs) = go (f x) (count-le f xs)
+count_le f [] = omega arith
+count_le f (x ∷ xs) = go (f x) (count_le f xs)
   where
     go : (b : Bool) → count f xs ≤ length xs → cond b 1 0 + count f xs ≤ suc (length xs)
     go true h = omega arith
@@ -190,14 +190,14 @@ count-le f (x ∷ xs) = go (f x) (count-le f xs)
 
 -- a test at each member, from the i-th on, as a loop over a slice meets it
 module _ (f : ℕ → Bool) (xs : List ℕ) (i : ℕ) where
-  pub rest-past : length xs ≤ i → each f (drop i xs) ≡ true
+  pub rest_past : length xs ≤ i → each f (drop i xs) ≡ true
   unfolding each
-  rest-past h = rw (drop_of_length-le xs h)
+  rest_past h = rw (drop_of_length-le xs h)
 
-  pub rest-no : i < length xs → f (get_or xs i 0) ≡ false → each f (drop i xs) ≡ false
+  pub rest_no : i < length xs → f (get_or xs i 0) ≡ false → each f (drop i xs) ≡ false
   unfolding each
-  rest-no h e = rw (drop-cons xs i 0 h, e)
+  rest_no h e = rw (drop-cons xs i 0 h, e)
 
-  pub rest-yes : i < length xs → f (get_or xs i 0) ≡ true → each f (drop i xs) ≡ each f (drop (i + 1) xs)
+  pub rest_yes : i < length xs → f (get_or xs i 0) ≡ true → each f (drop i xs) ≡ each f (drop (i + 1) xs)
   unfolding each
-  rest-yes h e = rw (drop-cons xs i 0 h, e, add-one i)
+  rest_yes h e = rw (drop-cons xs i 0 h, e, add-one i)

@@ -4,10 +4,10 @@
 use Rattle.std.specs.Prelude.{◌≡◌, ◌≢◌, ◌⊎◌, true, false, List, [], ◌∷◌, ℕ, zero, suc, ◌+◌, ◌*◌, ◌-◌, ◌/◌, ◌%◌, ◌≤◌, ◌<◌, length}
 use Rattle.std.proofs.lemmas.List.Edits.{sets}
 use Rattle.rules.specs.Ranges.{at}
-use Rattle.rules.specs.Header.{size_of, refsOf, isHeader}
-use Rattle.rules.specs.Pages.{pagesNamed, lowestFree}
+use Rattle.rules.specs.Header.{size_of, refs_of, is_header}
+use Rattle.rules.specs.Pages.{pages_named, lowest_free}
 use Rattle.rules.specs.Lent.{Lent}
-use Rattle.rules.specs.Collection.{Plan, Pages, State, hintPage, withRoom, top, canCopy, forward, sweepReference, sweepReferences, isLeft, sizeAtCopy, sweepPage, filler, fillPage, begun, afterHints, afterRoots, afterSweep, keptPages}
+use Rattle.rules.specs.Collection.{Plan, Pages, State, hint_page, with_room, top, can_copy, forward, sweep_reference, sweep_references, is_left, size_at_copy, sweep_page, filler, fill_page, begun, after_hints, after_roots, after_sweep, kept_pages}
 
 -- step 1: a named page can join the queue, and then no longer has the old label
 pub record SafeHint (k : Plan) (s : Pages) : Type 0 where
@@ -19,13 +19,13 @@ pub record SafeHint (k : Plan) (s : Pages) : Type 0 where
 
 unfoldable pub SafeHints : Plan → List ℕ → Pages → Type 0
 SafeHints k [] s = Unit {0}
-SafeHints k (g ∷ gs) s = SafeHint k s × SafeHints k gs (hintPage k g s)
+SafeHints k (g ∷ gs) s = SafeHint k s × SafeHints k gs (hint_page k g s)
 
 -- a free page is there, and a place in the queue; once labelled it is no longer free
 pub record SafeTake (k : Plan) (s : Pages) : Type 0 where
   pub new : k.new ≢ 0
   pub hi : k.hi ≡ length s.labels
-  pub found : lowestFree s.labels k.lo k.hi < k.hi
+  pub found : lowest_free s.labels k.lo k.hi < k.hi
   pub few : length s.labels ≤ 4096
   pub queue : length s.queue < length s.labels
 
@@ -34,8 +34,8 @@ pub record SafeCopy (k : Plan) (n x : ℕ) (s : State) : Type 0 where
   pub fill : s.pages.fill ≤ k.page
   pub take : k.page < s.pages.fill + n → SafeTake k s.pages
   pub from : x + n ≤ length s.heap
-  pub into : top k (withRoom k n s.pages) + n ≤ length s.heap
-  pub apart : (x + n ≤ top k (withRoom k n s.pages)) ⊎ (top k (withRoom k n s.pages) + n ≤ x)
+  pub into : top k (with_room k n s.pages) + n ≤ length s.heap
+  pub apart : (x + n ≤ top k (with_room k n s.pages)) ⊎ (top k (with_room k n s.pages) + n ≤ x)
   pub small : length s.heap ≤ 4194304
   pub objects : s.objects ≤ 4194304
   pub words : s.words ≤ 4194304
@@ -54,9 +54,9 @@ pub record SafeForward (k : Plan) (v : ℕ) (s : State) : Type 0 where
   pub fill : s.pages.fill ≤ k.page
   pub within : v ≢ 0 → v < length s.heap
   pub label : v ≢ 0 → v / k.page < length s.pages.labels
-  pub copy : v ≢ 0 → at s.heap v % 2 ≢ 0 → at s.pages.labels (v / k.page) ≢ k.new → canCopy k (size_of (at s.heap v)) s.pages ≡ true
+  pub copy : v ≢ 0 → at s.heap v % 2 ≢ 0 → at s.pages.labels (v / k.page) ≢ k.new → can_copy k (size_of (at s.heap v)) s.pages ≡ true
       → SafeCopy k (size_of (at s.heap v)) v s
-  pub keep : v ≢ 0 → at s.heap v % 2 ≢ 0 → at s.pages.labels (v / k.page) ≢ k.new → canCopy k (size_of (at s.heap v)) s.pages ≡ false
+  pub keep : v ≢ 0 → at s.heap v % 2 ≢ 0 → at s.pages.labels (v / k.page) ≢ k.new → can_copy k (size_of (at s.heap v)) s.pages ≡ false
       → SafeKeep k (v / k.page) s.pages
 
 -- step 2
@@ -67,22 +67,22 @@ SafeRoots k (r ∷ rs) s = SafeForward k r s × SafeRoots k rs (forward k r s).s
 -- step 3
 unfoldable pub SafeReferences : Plan → ℕ → ℕ → State → Type 0
 SafeReferences k zero w s = Unit {0}
-SafeReferences k (suc n) w s = SafeForward k (at s.heap w) s × SafeReferences k n (suc w) (sweepReference k w s)
+SafeReferences k (suc n) w s = SafeForward k (at s.heap w) s × SafeReferences k n (suc w) (sweep_reference k w s)
 
 -- Q-6: from a place that begins with word w, which an object left, the walk can go on by the length at the copy
 pub record SafeStep (h : List ℕ) (w room : ℕ) : Type 0 where
   pub inside : w / 2 < length h
-  pub some : 1 ≤ sizeAtCopy h w
-  pub fits : sizeAtCopy h w ≤ room
+  pub some : 1 ≤ size_at_copy h w
+  pub fits : size_at_copy h w ≤ room
 
 unfoldable pub SafePage : Plan → ℕ → ℕ → ℕ → State → Type 0
 SafePage k zero a room s = Unit {0}
 SafePage k (suc f) a room s =
     let w = at s.heap a in
-    (isHeader w room ≡ true
-    → SafeReferences k (refsOf w) (suc a) s
-    × SafePage k f (a + size_of w) (room - size_of w) (sweepReferences k (refsOf w) (suc a) s))
-    × (isLeft w room ≡ true → SafeStep s.heap w room × SafePage k f (a + sizeAtCopy s.heap w) (room - sizeAtCopy s.heap w) s)
+    (is_header w room ≡ true
+    → SafeReferences k (refs_of w) (suc a) s
+    × SafePage k f (a + size_of w) (room - size_of w) (sweep_references k (refs_of w) (suc a) s))
+    × (is_left w room ≡ true → SafeStep s.heap w room × SafePage k f (a + size_at_copy s.heap w) (room - size_at_copy s.heap w) s)
 
 unfoldable pub SafeQueue : Plan → ℕ → ℕ → State → Type 0
 SafeQueue k zero i s = Unit {0}
@@ -90,29 +90,29 @@ SafeQueue k (suc f) i s =
     i < length s.pages.queue
     → (at s.pages.queue i * k.page + k.page ≤ length s.heap)
     × (SafePage k k.page (at s.pages.queue i * k.page) k.page s
-    × SafeQueue k f (suc i) (sweepPage k k.page (at s.pages.queue i * k.page) k.page s))
+    × SafeQueue k f (suc i) (sweep_page k k.page (at s.pages.queue i * k.page) k.page s))
 
 -- step 4, on the pages kept
 unfoldable pub SafeFill : ℕ → ℕ → ℕ → List ℕ → Type 0
 SafeFill zero a room h = Unit {0}
 SafeFill (suc f) a room h =
     let w = at h a in
-    (isHeader w room ≡ true → SafeFill f (a + size_of w) (room - size_of w) h)
-    × (isLeft w room ≡ true → SafeStep h w room × SafeFill f (a + sizeAtCopy h w) (room - sizeAtCopy h w) (sets h a (filler (sizeAtCopy h w))))
+    (is_header w room ≡ true → SafeFill f (a + size_of w) (room - size_of w) h)
+    × (is_left w room ≡ true → SafeStep h w room × SafeFill f (a + size_at_copy h w) (room - size_at_copy h w) (sets h a (filler (size_at_copy h w))))
 
 unfoldable pub SafeFills : ℕ → List ℕ → List ℕ → Type 0
 SafeFills P [] h = Unit {0}
 SafeFills P (g ∷ gs) h =
     (g * P + P ≤ length h)
-    × (SafeFill P (g * P) P h × SafeFills P gs (fillPage P (g * P) P (record { heap = h; places = [] })).heap)
+    × (SafeFill P (g * P) P h × SafeFills P gs (fill_page P (g * P) P (record { heap = h; places = [] })).heap)
 
 -- the whole run, and the bounds of its counts
 pub record SafeRun (k : Plan) (m : Lent) (roots hints : List ℕ) : Type 0 where
-  pub onHints : SafeHints k (pagesNamed k.page k.lo k.hi hints) (begun m)
-  pub onRoots : SafeRoots k roots (record { heap = m.heap; pages = afterHints k m hints; objects = 0; words = 0; moves = [] })
-  pub onQueue : SafeQueue k m.rec.pages 0 (afterRoots k m roots hints).state
-  pub onKept : SafeFills k.page (keptPages (afterSweep k m roots hints).pages) (afterSweep k m roots hints).heap
-  pub hinted : length (afterHints k m hints).queue + (afterSweep k m roots hints).pages.kept ≤ length (afterSweep k m roots hints).pages.queue
-  pub queue : length (afterSweep k m roots hints).pages.queue ≤ 4096
-  pub objects : (afterSweep k m roots hints).objects ≤ 4194304
-  pub words : (afterSweep k m roots hints).words ≤ 4194304
+  pub on_hints : SafeHints k (pages_named k.page k.lo k.hi hints) (begun m)
+  pub on_roots : SafeRoots k roots (record { heap = m.heap; pages = after_hints k m hints; objects = 0; words = 0; moves = [] })
+  pub on_queue : SafeQueue k m.rec.pages 0 (after_roots k m roots hints).state
+  pub on_kept : SafeFills k.page (kept_pages (after_sweep k m roots hints).pages) (after_sweep k m roots hints).heap
+  pub hinted : length (after_hints k m hints).queue + (after_sweep k m roots hints).pages.kept ≤ length (after_sweep k m roots hints).pages.queue
+  pub queue : length (after_sweep k m roots hints).pages.queue ≤ 4096
+  pub objects : (after_sweep k m roots hints).objects ≤ 4194304
+  pub words : (after_sweep k m roots hints).words ≤ 4194304

@@ -7,41 +7,41 @@ use Rattle.rules.specs.Ranges.{at}
 use Rattle.std.proofs.Math.Decide.{dec_lt}
 
 -- every word of a list of zeros is 0, and so is what stands past its end
-pub zeros-at : (n w : ℕ) → at (replicate n 0) w ≡ 0
-zeros-at zero w = refl
-zeros-at (suc n) zero = refl
-zeros-at (suc n) (suc w) = zeros-at n w
+pub zeros_at : (n w : ℕ) → at (replicate n 0) w ≡ 0
+zeros_at zero w = refl
+zeros_at (suc n) zero = refl
+zeros_at (suc n) (suc w) = zeros_at n w
 
 -- a word before the first stored, or behind the last, stays
-pub sets-other : (l : List ℕ) (i : ℕ) (vs : List ℕ) (w : ℕ) → (w < i) ⊎ (i + length vs ≤ w) → at (sets l i vs) w ≡ at l w
-sets-other l i [] w h = refl
-sets-other l i (v ∷ vs) w (inl h) = sets-other (set l i v) (suc i) vs w (inl (omega arith)) ∙ get_or-set_other l i w v 0 (omega arith)
-sets-other l i (v ∷ vs) w (inr h) = sets-other (set l i v) (suc i) vs w (inr (omega arith)) ∙ get_or-set_other l i w v 0 (omega arith)
+pub sets_other : (l : List ℕ) (i : ℕ) (vs : List ℕ) (w : ℕ) → (w < i) ⊎ (i + length vs ≤ w) → at (sets l i vs) w ≡ at l w
+sets_other l i [] w h = refl
+sets_other l i (v ∷ vs) w (inl h) = sets_other (set l i v) (suc i) vs w (inl (omega arith)) ∙ get_or-set_other l i w v 0 (omega arith)
+sets_other l i (v ∷ vs) w (inr h) = sets_other (set l i v) (suc i) vs w (inr (omega arith)) ∙ get_or-set_other l i w v 0 (omega arith)
 
 -- the k-th word stored stands k words on
-pub sets-in : (l : List ℕ) (i : ℕ) (vs : List ℕ) (k : ℕ) → k < length vs → i + length vs ≤ length l → at (sets l i vs) (i + k) ≡ at vs k
-sets-in l i [] k h f = absurd (omega arith)
-sets-in l i (v ∷ vs) zero h f =
-    rw add-zero (sets-other (set l i v) (suc i) vs i (inl (omega arith)) ∙ get_or-set_same l i v 0 (omega arith))
-sets-in l i (v ∷ vs) (suc k) h f =
+pub sets_in : (l : List ℕ) (i : ℕ) (vs : List ℕ) (k : ℕ) → k < length vs → i + length vs ≤ length l → at (sets l i vs) (i + k) ≡ at vs k
+sets_in l i [] k h f = absurd (omega arith)
+sets_in l i (v ∷ vs) zero h f =
+    rw add-zero (sets_other (set l i v) (suc i) vs i (inl (omega arith)) ∙ get_or-set_same l i v 0 (omega arith))
+sets_in l i (v ∷ vs) (suc k) h f =
     let e : i + suc k ≡ suc i + k = omega arith in
-    rw e (sets-in (set l i v) (suc i) vs k (omega arith) (rw length-set (omega arith)))
+    rw e (sets_in (set l i v) (suc i) vs k (omega arith) (rw length-set (omega arith)))
 
 -- a block of n words copied from x to y, where the two do not meet
-pub copied-in : (h : List ℕ) (x y n i : ℕ) → i < n → x + n ≤ length h → y + n ≤ length h → at (sets h y (take n (drop x h))) (y + i) ≡ at h (x + i)
-copied-in h x y n i hi hx hy =
+pub copied_in : (h : List ℕ) (x y n i : ℕ) → i < n → x + n ≤ length h → y + n ≤ length h → at (sets h y (take n (drop x h))) (y + i) ≡ at h (x + i)
+copied_in h x y n i hi hx hy =
     let len : length (take n (drop x h)) ≡ n = rw (length-take, length-drop) (omega arith) in
-    sets-in h y (take n (drop x h)) i (omega arith) (omega arith) ∙ get_or-take n (drop x h) i 0 hi ∙ get_or-drop x h i 0
+    sets_in h y (take n (drop x h)) i (omega arith) (omega arith) ∙ get_or-take n (drop x h) i 0 hi ∙ get_or-drop x h i 0
 
-pub copied-out : (h : List ℕ) (x y n w : ℕ) → (w < y) ⊎ (y + n ≤ w) → x + n ≤ length h → at (sets h y (take n (drop x h))) w ≡ at h w
-copied-out h x y n w (inl o) hx = sets-other h y (take n (drop x h)) w (inl o)
-copied-out h x y n w (inr o) hx =
+pub copied_out : (h : List ℕ) (x y n w : ℕ) → (w < y) ⊎ (y + n ≤ w) → x + n ≤ length h → at (sets h y (take n (drop x h))) w ≡ at h w
+copied_out h x y n w (inl o) hx = sets_other h y (take n (drop x h)) w (inl o)
+copied_out h x y n w (inr o) hx =
     let len : length (take n (drop x h)) ≡ n = rw (length-take, length-drop) (omega arith) in
-    sets-other h y (take n (drop x h)) w (inr (omega arith))
+    sets_other h y (take n (drop x h)) w (inr (omega arith))
 
 -- a place that does not hold 0 is inside
-pub in-range : (l : List ℕ) (g : ℕ) → at l g ≢ 0 → g < length l
-in-range l g h = go (dec_lt g (length l))
+pub in_range : (l : List ℕ) (g : ℕ) → at l g ≢ 0 → g < length l
+in_range l g h = go (dec_lt g (length l))
   where
     go : Dec (g < length l) → g < length l
     go (yes p) = p

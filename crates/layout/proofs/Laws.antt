@@ -11,20 +11,20 @@ use lib.Dec.{eqb, leb}
 use borrow.Author.Tests.{eq-eqb, ne_eqb, le-leb, lt-leb, lt-ltb, le-ltb}
 use Rattle.rules.specs.declared.Found.TheVariants.{Start, Inside, Nothing}
 use Rattle.rules.specs.Ranges.{at}
-use Rattle.rules.specs.Header.{size_of, isHeader}
+use Rattle.rules.specs.Header.{size_of, is_header}
 use Rattle.rules.specs.Lent.{Lent}
 use Rattle.rules.specs.Walk.{landing, found}
 use Rattle.rules.specs.Sound.{InUse}
-use Rattle.laws.specs.Headers.{header-says, header_is, header-room}
-use Rattle.laws.specs.Walk.{size, objects, objects-end, objects-step, starts-are}
-use Rattle.laws.specs.LookUp.{in-use-is, no_header}
+use Rattle.laws.specs.Headers.{header_says, header_is, header_room}
+use Rattle.laws.specs.Walk.{size, objects, objects_end, objects_step, starts_are}
+use Rattle.laws.specs.LookUp.{in_use_is, no_header}
 
 -- a header's form: that of a header where there is room for it. A word has it if it is a header, and is a header if it has it and there is room
-pub header-form : (w room : ℕ) → isHeader w room ≡ true → isHeader w (size_of w) ≡ true
-header-form w room q = let H = header-says w room q in header_is w (size_of w) (record { odd = H.odd; shape = H.shape; fits = omega arith })
+pub header_form : (w room : ℕ) → is_header w room ≡ true → is_header w (size_of w) ≡ true
+header_form w room q = let H = header_says w room q in header_is w (size_of w) (record { odd = H.odd; shape = H.shape; fits = omega arith })
 
-form-header : (w room : ℕ) → isHeader w (size_of w) ≡ true → isHeader w room ≡ leb (size_of w) room
-form-header w room q = let H = header-says w (size_of w) q in header-room w room H.odd H.shape
+form_header : (w room : ℕ) → is_header w (size_of w) ≡ true → is_header w room ≡ leb (size_of w) room
+form_header w room q = let H = header_says w (size_of w) q in header_room w room H.odd H.shape
 
 -- The walk of the page from `base` to e has come to b, and met `last` before. While it has not passed a, what is found there is still ahead. Once it
 -- has, a is inside `last`, if that ends on the page: the objects before it ended at a or sooner, and so on the page.
@@ -35,38 +35,38 @@ pub record Coming (h : List ℕ) (base e a b last : ℕ) : Type 0 where
   pub over : e < b → landing h a (objects h base e) ≡ Nothing
 
 module _ (h : List ℕ) (base e a : ℕ) where
-  pub coming-begins : base ≤ a → a < e → Coming h base e a base base
-  coming-begins from to = record { below = from; ahead = λ p. refl; inside = λ p q. absurd (omega arith); over = λ p. absurd (omega arith) }
+  pub coming_begins : base ≤ a → a < e → Coming h base e a base base
+  coming_begins from to = record { below = from; ahead = λ p. refl; inside = λ p q. absurd (omega arith); over = λ p. absurd (omega arith) }
 
   module _ (b last : ℕ) (C : Coming h base e a b last) where
-    pub coming-on : a < e → b < a → isHeader (at h b) (size h b) ≡ true → (n : ℕ) → n ≡ size h b → Coming h base e a (b + n) b
+    pub coming_on : a < e → b < a → is_header (at h b) (size h b) ≡ true → (n : ℕ) → n ≡ size h b → Coming h base e a (b + n) b
     unfolding landing
-    coming-on to l q n en =
+    coming_on to l q n en =
         rw en (record {
           below = omega arith;
           ahead = λ p. C.ahead (omega arith) ∙ rw (fits (omega arith), ne, lt-ltb b a l, le-ltb a (b + size h b) p);
           inside = λ p r. C.ahead (omega arith) ∙ rw (fits r, ne, lt-ltb b a l, lt-ltb a (b + size h b) p);
-          over = λ p. C.ahead (omega arith) ∙ rw (objects-end h b e (form-header _ _ q ∙ lt-leb (size h b) (e - b) (omega arith)));
+          over = λ p. C.ahead (omega arith) ∙ rw (objects_end h b e (form_header _ _ q ∙ lt-leb (size h b) (e - b) (omega arith)));
         })
       where
         ne : eqb a b ≡ false
         ne = ne_eqb a b (omega arith)
 
         fits : b + size h b ≤ e → objects h b e ≡ b ∷ objects h (b + size h b) e
-        fits r = objects-step h b e (form-header _ _ q ∙ le-leb (size h b) (e - b) (omega arith))
+        fits r = objects_step h b e (form_header _ _ q ∙ le-leb (size h b) (e - b) (omega arith))
 
     -- no header stands where it has come to, past the heap or there
-    pub coming-none : (length h ≤ b) ⊎ (isHeader (at h b) (e - b) ≡ false) → b ≤ a → landing h a (objects h base e) ≡ Nothing
+    pub coming_none : (length h ≤ b) ⊎ (is_header (at h b) (e - b) ≡ false) → b ≤ a → landing h a (objects h base e) ≡ Nothing
     unfolding landing
-    coming-none q l = C.ahead l ∙ rw (objects-end h b e (⊎_elim (λ w. no_header h b e (inr w)) (λ w. w) q))
+    coming_none q l = C.ahead l ∙ rw (objects_end h b e (⊎_elim (λ w. no_header h b e (inr w)) (λ w. w) q))
 
     -- a header stands there, at the address
-    pub coming-met : isHeader (at h b) (e - b) ≡ true → a ≡ b → landing h a (objects h base e) ≡ Start (at h b)
+    pub coming_met : is_header (at h b) (e - b) ≡ true → a ≡ b → landing h a (objects h base e) ≡ Start (at h b)
     unfolding landing
-    coming-met q z = C.ahead (omega arith) ∙ rw (objects-step h b e q, eq-eqb a b z)
+    coming_met q z = C.ahead (omega arith) ∙ rw (objects_step h b e q, eq-eqb a b z)
 
 -- what is found on a page in use
-pub found-in-use : (m : Lent) (a base : ℕ) → InUse m (a / m.rec.page) → base ≡ a / m.rec.page * m.rec.page
+pub found_in_use : (m : Lent) (a base : ℕ) → InUse m (a / m.rec.page) → base ≡ a / m.rec.page * m.rec.page
     → found m a ≡ landing m.heap a (objects m.heap base (base + m.rec.page))
 unfolding found
-found-in-use m a base u e = rw (in-use-is m _ u, starts-are m (a / m.rec.page), e)
+found_in_use m a base u e = rw (in_use_is m _ u, starts_are m (a / m.rec.page), e)

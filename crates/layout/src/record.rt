@@ -1,7 +1,7 @@
 // The control record, the lengths of what is lent, and when both are valid.
 ghost use Rattle.std.specs.Prelude.{◌≡◌};
 ghost use Rattle.rules.specs.Ranges.{at};
-ghost use Rattle.rules.specs.Lent.{lent, isLaidOut, isOpen, isValid};
+ghost use Rattle.rules.specs.Lent.{lent, is_laid_out, is_open, is_valid};
 
 use numbers::{header, pages};
 use rules::Record;
@@ -19,7 +19,7 @@ pub fn label_at(labels: &[u16], g: usize) -> u32
 
 // Good P and T, and the lengths that go with them.
 pub fn is_laid_out(heap: usize, labels: usize, links: usize, page: u32, pages: u32) -> bool
-    ensures { result ≡ isLaidOut heap labels links page pages }
+    ensures { result ≡ is_laid_out heap labels links page pages }
 {
     if !pages::is_shape(page, pages) {
         return false;
@@ -37,7 +37,7 @@ pub fn is_laid_out(heap: usize, labels: usize, links: usize, page: u32, pages: u
 
 // The open page and the fill.
 pub fn is_open(labels: &[u16], r: Record) -> bool
-    ensures { result ≡ isOpen labels.now r }
+    ensures { result ≡ is_open labels.now r }
 {
     let opened = r.opened;
     if opened == 0 {
@@ -57,7 +57,7 @@ pub fn is_open(labels: &[u16], r: Record) -> bool
 
 // Not refused 1: lengths, P, T and record are right.
 pub fn is_valid(heap: &[u32], labels: &[u16], links: &[u16], r: Record) -> bool
-    ensures { result ≡ isValid (lent heap.now labels.now links.now r) }
+    ensures { result ≡ is_valid (lent heap.now labels.now links.now r) }
 {
     if !is_laid_out(heap.len(), labels.len(), links.len(), r.page, r.pages) {
         return false;

@@ -1,6 +1,6 @@
 // The labels as a table of pages: which are used, which is free; and slices set to zeros.
 ghost use Rattle.std.specs.Prelude.{◌≡◌, ◌⊎◌, ◌-◌, ◌≤◌, length, replicate};
-ghost use Rattle.rules.specs.Pages.{lowestFree, pagesUsed};
+ghost use Rattle.rules.specs.Pages.{lowest_free, pages_used};
 
 // The smaller of two numbers. A loop that ends there is inside both ranges, and asks once a turn whether it is.
 pub fn smaller(a: usize, b: usize) -> usize
@@ -11,7 +11,7 @@ pub fn smaller(a: usize, b: usize) -> usize
 
 // How many pages from lo to hi - 1 are in use. Those past the labels are free.
 pub fn pages_used(labels: &[u16], lo: u32, hi: u32) -> u32
-    ensures { (result ≡ pagesUsed labels.now lo hi) × (result ≤ hi - lo) }
+    ensures { (result ≡ pages_used labels.now lo hi) × (result ≤ hi - lo) }
 {
     let end = smaller(hi as usize, labels.len());
     let mut n: u32 = 0;
@@ -27,7 +27,7 @@ pub fn pages_used(labels: &[u16], lo: u32, hi: u32) -> u32
 
 // The lowest-numbered free page from lo to hi - 1; hi where none is free. The first page past the labels is free.
 pub fn lowest_free(labels: &[u16], lo: u32, hi: u32) -> u32
-    ensures { result ≡ lowestFree labels.now lo hi }
+    ensures { result ≡ lowest_free labels.now lo hi }
 {
     let top = hi as usize;
     let end = smaller(top, labels.len());

@@ -1,7 +1,7 @@
 // The walk of a page, and what is found at an address.
 ghost use Rattle.std.specs.Prelude.{◌≡◌, List, ℕ, ◌+◌, ◌≤◌, ◌<◌};
 ghost use Rattle.rules.specs.Lent.{lent};
-ghost use Rattle.rules.specs.Walk.{landing, found, isStart, isReference};
+ghost use Rattle.rules.specs.Walk.{landing, found, is_start, is_reference};
 ghost use Rattle.laws.specs.Walk.{objects};
 
 use crate::{record, tables};
@@ -73,7 +73,7 @@ pub fn find(heap: &[u32], labels: &[u16], r: Record, address: u32) -> Found
 
 // An object starts at the address.
 pub fn is_start(heap: &[u32], labels: &[u16], r: Record, address: u32) -> bool
-    ensures { (links : List ℕ) → result ≡ isStart (lent heap.now labels.now links r) address }
+    ensures { (links : List ℕ) → result ≡ is_start (lent heap.now labels.now links r) address }
 {
     let found = find(heap, labels, r, address);
     match found {
@@ -85,7 +85,7 @@ pub fn is_start(heap: &[u32], labels: &[u16], r: Record, address: u32) -> bool
 
 // The value may stand for a reference: it is 0 or an object start.
 pub fn is_reference(heap: &[u32], labels: &[u16], r: Record, value: u32) -> bool
-    ensures { (links : List ℕ) → result ≡ isReference (lent heap.now labels.now links r) value }
+    ensures { (links : List ℕ) → result ≡ is_reference (lent heap.now labels.now links r) value }
 {
     if value == 0 {
         return true;

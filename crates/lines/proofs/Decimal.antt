@@ -15,9 +15,9 @@ use Rattle.lines.specs.Lines.{digits}
 
 -- ---- the fewest digits
 
-tens-pos : (j : ℕ) → 1 ≤ 10 ^ j
-tens-pos zero = omega (arith, pow-zero 10)
-tens-pos (suc j) = omega (arith, pow-suc 10 j, tens-pos j)
+tens_pos : (j : ℕ) → 1 ≤ 10 ^ j
+tens_pos zero = omega (arith, pow-zero 10)
+tens_pos (suc j) = omega (arith, pow-suc 10 j, tens_pos j)
 
 least : (n j : ℕ) → IsDigitCount 10 1 n (suc (suc j)) → 10 ^ suc j ≤ n
 least n j w = let e : suc (suc j) - 1 ≡ suc j = omega arith in rw e at (w.2 (omega arith))
@@ -26,7 +26,7 @@ least n j w = let e : suc (suc j) - 1 ≡ suc j = omega arith in rw e at (w.2 (o
 small : (n k : ℕ) → n < 10 → IsDigitCount 10 1 n k → k ≡ 1
 small n zero h w = absurd (omega (arith, w.0))
 small n (suc zero) h w = refl
-small n (suc (suc j)) h w = absurd (omega (arith, least n j w, pow-suc 10 j, tens-pos j))
+small n (suc (suc j)) h w = absurd (omega (arith, least n j w, pow-suc 10 j, tens_pos j))
 
 -- from ten on two or more, and one fewer for a tenth
 more : (n k : ℕ) → 10 ≤ n → IsDigitCount 10 1 n k → (j : ℕ) × (k ≡ suc (suc j))
@@ -42,20 +42,20 @@ fewer n j w =
 digit : (d : ℕ) → d < 10 → io.hex_digit_ascii d ≡ 48 + d
 digit d h = simp (lt-ltb d 10 h)
 
-one-digit : (n k : ℕ) → n < 10 → IsDigitCount 10 1 n k → io.last_digits 10 k n ≡ (48 + n) ∷ []
-one-digit n k h w =
+one_digit : (n k : ℕ) → n < 10 → IsDigitCount 10 1 n k → io.last_digits 10 k n ≡ (48 + n) ∷ []
+one_digit n k h w =
     let e : n % 10 ≡ n = omega arith in
     rw (small n k h w) (ap (λ (x : ℕ). x ∷ []) (digit (n % 10) (omega arith) ∙ ap (λ (x : ℕ). 48 + x) e))
 
 -- the digits that `io::decimal` makes are those of the definition
 pub spelled : (f n k : ℕ) → n < 10 ^ suc f → IsDigitCount 10 1 n k → io.last_digits 10 k n ≡ digits f n
 unfolding digits
-spelled zero n k h w = one-digit n k (omega (arith, pow-suc 10 0, pow-zero 10)) w
+spelled zero n k h w = one_digit n k (omega (arith, pow-suc 10 0, pow-zero 10)) w
 spelled (suc f) n k h w = go (ltb n 10) refl (spelled f)
   where
     go : (b : Bool) → ltb n 10 ≡ b → ((m j : ℕ) → m < 10 ^ suc f → IsDigitCount 10 1 m j → io.last_digits 10 j m ≡ digits f m)
         → io.last_digits 10 k n ≡ cond b ((48 + n) ∷ []) (digits f (n / 10) ++ ((48 + n % 10) ∷ []))
-    go true e ih = one-digit n k (ltb-true n 10 e) w
+    go true e ih = one_digit n k (ltb-true n 10 e) w
     go false e ih =
         let m = more n k (ltb-false n 10 e) w in
         let tail = ih (n / 10) (suc m.0) (omega (arith, pow-suc 10 (suc f))) (fewer n m.0 (rw m.1 at w)) in

@@ -10,7 +10,7 @@ tally n a r = record { records = n; accepted = a; refused = r }
 record Examples : Type 0 where
   -- one digit, two, and the ten of the largest number of 32 bits; what stands behind comes behind
   small : number 0 (7 ∷ []) ≡ 48 ∷ 7 ∷ []
-  one-digit : number 9 (7 ∷ []) ≡ 57 ∷ 7 ∷ []
+  one_digit : number 9 (7 ∷ []) ≡ 57 ∷ 7 ∷ []
   two_digits : number 10 (7 ∷ []) ≡ 49 ∷ 48 ∷ 7 ∷ []
   largest : number 4294967295 (7 ∷ []) ≡ 52 ∷ 50 ∷ 57 ∷ 52 ∷ 57 ∷ 54 ∷ 55 ∷ 50 ∷ 57 ∷ 53 ∷ 7 ∷ []
   -- "single spaces between": `1 23 456`
@@ -26,7 +26,7 @@ examples : Examples
 unfolding digits number line noted ending
 examples = record {
   small = refl;
-  one-digit = refl;
+  one_digit = refl;
   two_digits = refl;
   largest = refl;
   three = refl;

@@ -18,8 +18,8 @@ space = 32 ∷ []
 abbrev pub newline : List ℕ
 newline = 10 ∷ []
 
-abbrev pub theEnd : List ℕ
-theEnd = 101 ∷ 110 ∷ 100 ∷ 32 ∷ []
+abbrev pub the_end : List ℕ
+the_end = 101 ∷ 110 ∷ 100 ∷ 32 ∷ []
 
 -- three numbers, "in decimal, single spaces between"
 unfoldable pub line : ℕ → ℕ → ℕ → List ℕ
@@ -37,4 +37,4 @@ noted t refusal =
 
 -- "printed last, after the word `end`"
 unfoldable pub ending : Tally → List ℕ
-ending t = theEnd ++ line t.records t.accepted t.refused
+ending t = the_end ++ line t.records t.accepted t.refused

@@ -21,8 +21,8 @@ pub record Put (out out' : List ℕ) (a r : ℕ) (t : List ℕ) (most : ℕ) : T
 
 -- ---- one text after another
 
-put-put : (d t u : List ℕ) (a : ℕ) → a + length t ≤ length d → put (put d a t) (a + length t) u ≡ put d a (t ++ u)
-put-put d t u a h =
+put_put : (d t u : List ℕ) (a : ℕ) → a + length t ≤ length d → put (put d a t) (a + length t) u ≡ put d a (t ++ u)
+put_put d t u a h =
     let p : List ℕ = take a d ++ t in
     let m : ℕ = a + length t in
     let q : List ℕ = drop m d in
@@ -36,14 +36,14 @@ put-put d t u a h =
     ∙ ap (λ (k : ℕ). take a d ++ (t ++ u) ++ drop k d) n
 
 -- what is put behind a text goes with it
-pub put-more : {d d₁ t : List ℕ} {a b m : ℕ} → Put d d₁ a b t m → a + length t ≤ length d → (u : List ℕ) → put d₁ b u ≡ put d a (t ++ u)
-put-more {d} {d₁} {t} {a} {b} p h u = ap (λ (x : List ℕ). put x b u) p.text ∙ ap (λ (k : ℕ). put (put d a t) k u) p.place ∙ put-put d t u a h
+pub put_more : {d d₁ t : List ℕ} {a b m : ℕ} → Put d d₁ a b t m → a + length t ≤ length d → (u : List ℕ) → put d₁ b u ≡ put d a (t ++ u)
+put_more {d} {d₁} {t} {a} {b} p h u = ap (λ (x : List ℕ). put x b u) p.text ∙ ap (λ (k : ℕ). put (put d a t) k u) p.place ∙ put_put d t u a h
 
 -- the text that was put first, and the one behind it, are one text
 pub put_then : {d d₁ d₂ t u : List ℕ} {a b r m n : ℕ} → Put d d₁ a b t m → Put d₁ d₂ b r u n → a + length t ≤ length d
     → Put d d₂ a r (t ++ u) (m + n)
 put_then {d} {d₁} {d₂} {t} {u} {a} {b} {r} p q h = record {
-  text = q.text ∙ put-more p h u;
+  text = q.text ∙ put_more p h u;
   place = omega (arith, p.place, q.place, length-append t u);
   near = omega (arith, p.near, q.near);
 }

@@ -1,7 +1,7 @@
 // Header words, made and taken apart.
 ghost use Rattle.std.specs.Prelude.{◌≡◌, ◌<◌};
-ghost use Rattle.rules.specs.Header.{headerOf, size_of, refsOf, isHeader};
-ghost use Rattle.rules.specs.Collection.{isLeft};
+ghost use Rattle.rules.specs.Header.{header_of, size_of, refs_of, is_header};
+ghost use Rattle.rules.specs.Collection.{is_left};
 
 // A number as wide as a place in a slice.
 pub fn wide(x: u32) -> usize
@@ -19,14 +19,14 @@ pub fn size_of(w: u32) -> usize
 
 // p, the references of an object with this header.
 pub fn refs_of(w: u32) -> usize
-    ensures { (result ≡ refsOf w) × (result < 32768) }
+    ensures { (result ≡ refs_of w) × (result < 32768) }
 {
     wide(w % 65536 / 2)
 }
 
 // Whether w is a header, where there are `room` words before the page's end.
 pub fn is_header(w: u32, room: usize) -> bool
-    ensures { result ≡ isHeader w room }
+    ensures { result ≡ is_header w room }
 {
     if w % 2 != 1 {
         return false;
@@ -42,7 +42,7 @@ pub fn is_header(w: u32, room: usize) -> bool
 // Whether an object was copied out of the place that begins with word w, where there are `room` words before
 // the page's end.
 pub fn is_left(w: u32, room: usize) -> bool
-    ensures { result ≡ isLeft w room }
+    ensures { result ≡ is_left w room }
 {
     if w % 2 != 0 {
         return false;
@@ -56,7 +56,7 @@ pub fn is_left(w: u32, room: usize) -> bool
 // The header of an object of d payload words, the first p of them references. It is wider than a word, so that it is right
 // for any d and p; for those that a page takes it fits a word.
 pub fn header_of(d: u32, p: u32) -> u64
-    ensures { result ≡ headerOf d p }
+    ensures { result ≡ header_of d p }
 {
     (d as u64 + 1) * 65536 + 2 * (p as u64) + 1
 }

@@ -1,10 +1,10 @@
 // Pages by number: their size, which one a word names, how many a collection may need.
 ghost use Rattle.std.specs.Prelude.{◌≡◌, ◌%◌, eqb};
-ghost use Rattle.rules.specs.Pages.{isPageSize, isShape, pageAtStart, pageNamed, pageNamedBefore, otherLabel, pageNamedToC, pageNamedBeforeToC, pagesNeededToC};
+ghost use Rattle.rules.specs.Pages.{is_page_size, is_shape, page_at_start, page_named, page_named_before, other_label, page_named_to_c, page_named_before_to_c, pages_needed_to_c};
 
 // P is a power of two from 8 to 1,024.
 pub fn is_page_size(page: u32) -> bool
-    ensures { result ≡ isPageSize page }
+    ensures { result ≡ is_page_size page }
 {
     match page {
         8 | 16 | 32 | 64 | 128 | 256 | 512 | 1024 => true,
@@ -14,7 +14,7 @@ pub fn is_page_size(page: u32) -> bool
 
 // P and T are good.
 pub fn is_shape(page: u32, pages: u32) -> bool
-    ensures { result ≡ isShape page pages }
+    ensures { result ≡ is_shape page pages }
 {
     if !is_page_size(page) {
         return false;
@@ -27,14 +27,14 @@ pub fn is_shape(page: u32, pages: u32) -> bool
 
 // P = 0 at a start means the default.
 pub fn page_at_start(page: u32) -> u32
-    ensures { result ≡ pageAtStart page }
+    ensures { result ≡ page_at_start page }
 {
     if page == 0 { 64 } else { page }
 }
 
 // The page from lo to hi - 1 that the word names, 0 for none.
 pub fn page_named(page: u32, lo: u32, hi: u32, word: u32) -> u32
-    ensures { result ≡ pageNamed page lo hi word }
+    ensures { result ≡ page_named page lo hi word }
 {
     if page == 0 {
         return 0;
@@ -48,7 +48,7 @@ pub fn page_named(page: u32, lo: u32, hi: u32, word: u32) -> u32
 
 // The page that the word before names, 0 for none. There is no word before word 0.
 pub fn page_named_before(page: u32, lo: u32, hi: u32, word: u32) -> u32
-    ensures { result ≡ pageNamedBefore page lo hi word }
+    ensures { result ≡ page_named_before page lo hi word }
 {
     if word == 0 {
         return 0;
@@ -69,7 +69,7 @@ pub fn begins_page(page: u32, word: u32) -> bool
 // The pages that a word and the word before name, for a native solver, which may ask with any P and T: a bad one names no
 // page.
 pub fn page_named_checked(word: u32, page: u32, pages: u32) -> u32
-    ensures { result ≡ pageNamedToC word page pages }
+    ensures { result ≡ page_named_to_c word page pages }
 {
     if !is_shape(page, pages) {
         return 0;
@@ -78,7 +78,7 @@ pub fn page_named_checked(word: u32, page: u32, pages: u32) -> u32
 }
 
 pub fn page_named_before_checked(word: u32, page: u32, pages: u32) -> u32
-    ensures { result ≡ pageNamedBeforeToC word page pages }
+    ensures { result ≡ page_named_before_to_c word page pages }
 {
     if !is_shape(page, pages) {
         return 0;
@@ -89,7 +89,7 @@ pub fn page_named_before_checked(word: u32, page: u32, pages: u32) -> u32
 // How many pages a collection may take for `words` words on pages of `page`. A native solver may ask with any page size: for a
 // bad one no number of pages is enough.
 pub fn pages_needed(words: u32, page: u32) -> u32
-    ensures { result ≡ pagesNeededToC words page }
+    ensures { result ≡ pages_needed_to_c words page }
 {
     if !is_page_size(page) {
         return 4294967295;
@@ -102,7 +102,7 @@ pub fn pages_needed(words: u32, page: u32) -> u32
 
 // The label that a collection gives to what it retains.
 pub fn other_label(label: u32) -> u32
-    ensures { result ≡ otherLabel label }
+    ensures { result ≡ other_label label }
 {
     if label == 1 { 2 } else { 1 }
 }

@@ -11,23 +11,23 @@ use denote.Enum.Declared.{tag_of}
 use Rattle.rules.specs.declared.Found.{Found}
 use Rattle.rules.specs.declared.Found.TheVariants.{Start, Inside, Nothing}
 use Rattle.rules.specs.contracts.Found.{the_type}
-use Rattle.rules.specs.Calls.{Outcome, told, onStart}
+use Rattle.rules.specs.Calls.{Outcome, told, on_start}
 use Rattle.rules.specs.Header.{size_of}
-use Rattle.rules.specs.Lent.{Lent, isValid}
+use Rattle.rules.specs.Lent.{Lent, is_valid}
 use Rattle.rules.specs.Walk.{found}
-use Rattle.laws.specs.Valid.{valid-laid}
-use Rattle.laws.specs.LookUp.{placed, found-object}
+use Rattle.laws.specs.Valid.{valid_laid}
+use Rattle.laws.specs.LookUp.{placed, found_object}
 
 -- where no object start is found, look-up's answer is passed on; a `match` knows what was found by its tag
-pub not_start : (f : Found) → OneOf (1 ∷ (2 ∷ [])) (tag_of the_type f) → (a : ℕ) (m : Lent) (go : ℕ → Outcome) → onStart f a m go ≡ told f a m
+pub not_start : (f : Found) → OneOf (1 ∷ (2 ∷ [])) (tag_of the_type f) → (a : ℕ) (m : Lent) (go : ℕ → Outcome) → on_start f a m go ≡ told f a m
 not_start (Start w) (inl e) a m go = absurd (omega arith)
 not_start (Start w) (inr e) a m go = absurd (omega arith)
 not_start (Inside s) k a m go = refl
 not_start Nothing k a m go = refl
 
 -- an object that was found has a size, and lies in the heap
-pub found_within : (m : Lent) (a w : ℕ) → isValid m ≡ true → found m a ≡ Start w → (1 ≤ size_of w) × (a + size_of w ≤ length m.heap)
+pub found_within : (m : Lent) (a w : ℕ) → is_valid m ≡ true → found m a ≡ Start w → (1 ≤ size_of w) × (a + size_of w ≤ length m.heap)
 found_within m a w v f =
-    let o = found-object m a w f in
-    let P = placed m a (valid-laid m v) o.0 in
+    let o = found_object m a w f in
+    let P = placed m a (valid_laid m v) o.0 in
     rw o.1 (omega (arith, P.shape), P.inside)

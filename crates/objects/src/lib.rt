@@ -2,7 +2,7 @@
 // `rules`, refusals included. The checks go in the order of the table of refusals.
 ghost use Rattle.std.specs.Prelude.{◌≡◌, List, ℕ};
 ghost use Rattle.rules.specs.Lent.{lent};
-ghost use Rattle.rules.specs.Calls.{outcome, lookUp, load, mayStore, store};
+ghost use Rattle.rules.specs.Calls.{outcome, look_up, load, may_store, store};
 
 use layout::{record, walk};
 use numbers::header;
@@ -10,7 +10,7 @@ use rules::{Answer, Found, Record};
 
 // An object starts at the address, the address is inside one, or nothing is there.
 pub fn look_up(heap: &[u32], labels: &[u16], links: &[u16], r: Record, address: u32) -> Answer
-    ensures { outcome result heap.now labels.now links.now ≡ lookUp (lent heap.now labels.now links.now r) address }
+    ensures { outcome result heap.now labels.now links.now ≡ look_up (lent heap.now labels.now links.now r) address }
 {
     if !record::is_valid(heap, labels, links, r) {
         return answers::refused(1, r);
@@ -45,7 +45,7 @@ pub fn load(
 
 // The value may be stored as payload word `index` of an object with this header: a reference is checked.
 fn may_store(heap: &[u32], labels: &[u16], r: Record, w: u32, index: u32, value: u32) -> bool
-    ensures { (links : List ℕ) → result ≡ mayStore (lent heap.now labels.now links r) w index value }
+    ensures { (links : List ℕ) → result ≡ may_store (lent heap.now labels.now links r) w index value }
 {
     if header::refs_of(w) <= index as usize {
         return true;

@@ -11,8 +11,8 @@ use lib.Seq.{sets, sets-eq, drop-cons, take-suc, take-suc-set, take_all, drop-se
 use lib.Dec.{eqb}
 use borrow.Author.Tests.{eqb-true, eqb-false, eq-eqb, ne_eqb}
 use Rattle.rules.specs.Ranges.{at}
-use Rattle.rules.specs.Collection.{freedHeap, freedLabels}
-use Rattle.laws.specs.Pages.{page-end}
+use Rattle.rules.specs.Collection.{freed_heap, freed_labels}
+use Rattle.laws.specs.Pages.{page_end}
 
 -- ---- n zeros from a on, of which i are written
 
@@ -21,32 +21,32 @@ pub record Zeroing (a n : ℕ) (goal h : List ℕ) (i : ℕ) : Type 0 where
   pub same : sets h (a + i) (replicate (n - i) 0) ≡ goal
 
 module _ (a n : ℕ) where
-  pub zeroing-begin : (h : List ℕ) → Zeroing a n (sets h a (replicate n 0)) h 0
-  zeroing-begin h = record { within = zero-le; same = simp (add-zero, sub-zero) }
+  pub zeroing_begin : (h : List ℕ) → Zeroing a n (sets h a (replicate n 0)) h 0
+  zeroing_begin h = record { within = zero-le; same = simp (add-zero, sub-zero) }
 
   module _ (goal h : List ℕ) (i : ℕ) (Z : Zeroing a n goal h i) where
-    pub zeroing-turn : i < n → Zeroing a n goal (set h (a + i) 0) (i + 1)
-    zeroing-turn p =
+    pub zeroing_turn : i < n → Zeroing a n goal (set h (a + i) 0) (i + 1)
+    zeroing_turn p =
         let e : n - i ≡ suc (n - (i + 1)) = omega arith in
         let f : a + (i + 1) ≡ suc (a + i) = omega arith in
         record { within = omega arith; same = rw f (rw e at Z.same) }
 
-    pub zeroing-end : n ≤ i → h ≡ goal
-    zeroing-end p = let e : n - i ≡ 0 = omega arith in rw e at Z.same
+    pub zeroing_end : n ≤ i → h ≡ goal
+    zeroing_end p = let e : n - i ≡ 0 = omega arith in rw e at Z.same
 
 -- ---- the pages: those below g are done
 
 pub record Freeing (P old : ℕ) (goalH goalL h l : List ℕ) (g : ℕ) : Type 0 where
-  pub heap : take (g * P) h ++ freedHeap P old (drop g l) (drop (g * P) h) ≡ goalH
-  pub labels : take g l ++ freedLabels old (drop g l) ≡ goalL
+  pub heap : take (g * P) h ++ freed_heap P old (drop g l) (drop (g * P) h) ≡ goalH
+  pub labels : take g l ++ freed_labels old (drop g l) ≡ goalL
 
-pub freeing-begin : (P old : ℕ) (h l : List ℕ) → Freeing P old (freedHeap P old l h) (freedLabels old l) h l 0
-freeing-begin P old h l = let e : 0 * P ≡ 0 = omega arith in record { heap = rw e; labels = refl }
+pub freeing_begin : (P old : ℕ) (h l : List ℕ) → Freeing P old (freed_heap P old l h) (freed_labels old l) h l 0
+freeing_begin P old h l = let e : 0 * P ≡ 0 = omega arith in record { heap = rw e; labels = refl }
 
 module _ (P old T : ℕ) (goalH goalL h l : List ℕ) (g : ℕ) (F : Freeing P old goalH goalL h l g) (hl : length h ≡ T * P) (ll : length l ≡ T) where
-  pub freeing-end : T ≤ g → (h ≡ goalH) × (l ≡ goalL)
-  unfolding freedHeap freedLabels
-  freeing-end p =
+  pub freeing_end : T ≤ g → (h ≡ goalH) × (l ≡ goalL)
+  unfolding freed_heap freed_labels
+  freeing_end p =
       let le : length h ≤ g * P = omega (arith, mul-le-mul_right P p) in
       let lq : length l ≤ g = omega arith in
       let d : drop g l ≡ [] = drop_of_length-le l lq in
@@ -59,30 +59,30 @@ module _ (P old T : ℕ) (goalH goalL h l : List ℕ) (g : ℕ) (F : Freeing P o
     here = omega arith
 
     fits : g * P + P ≤ length h
-    fits = omega (arith, page-end g P T p)
+    fits = omega (arith, page_end g P T p)
 
     more : (g + 1) * P ≡ g * P + P
     more = ap (λ (k : ℕ). k * P) (add-one g) ∙ suc-mul g P
 
     -- what the pages after g give
     abbrev rest : List ℕ
-    rest = freedHeap P old (drop (suc g) l) (drop P (drop (g * P) h))
+    rest = freed_heap P old (drop (suc g) l) (drop P (drop (g * P) h))
 
     kept : (at l g ≡ old → ⊥) → Freeing P old goalH goalL h l (g + 1)
-    unfolding freedHeap freedLabels
+    unfolding freed_heap freed_labels
     kept n =
         let a : take (g * P) h ++ (take P (drop (g * P) h) ++ rest) ≡ goalH = rw (drop-cons l g 0 here, ne_eqb (at l g) old n) at F.heap in
-        let b : take g l ++ (at l g ∷ freedLabels old (drop (suc g) l)) ≡ goalL = rw (drop-cons l g 0 here, ne_eqb (at l g) old n) at F.labels in
+        let b : take g l ++ (at l g ∷ freed_labels old (drop (suc g) l)) ≡ goalL = rw (drop-cons l g 0 here, ne_eqb (at l g) old n) at F.labels in
         record {
           heap = rw (more, add-one g, take-add (g * P) P h, ← (drop-drop P (g * P) h), append_assoc (take (g * P) h) (take P (drop (g * P) h)) rest) a;
-          labels = rw (add-one g, take-suc l g 0 here, append_assoc (take g l) (at l g ∷ []) (freedLabels old (drop (suc g) l))) b;
+          labels = rw (add-one g, take-suc l g 0 here, append_assoc (take g l) (at l g ∷ []) (freed_labels old (drop (suc g) l))) b;
         }
 
     freed : at l g ≡ old → Freeing P old goalH goalL (sets h (g * P) (replicate P 0)) (set l g 0) (g + 1)
-    unfolding freedHeap freedLabels
+    unfolding freed_heap freed_labels
     freed y =
         let a : take (g * P) h ++ (replicate P 0 ++ rest) ≡ goalH = rw (drop-cons l g 0 here, eq-eqb (at l g) old y) at F.heap in
-        let b : take g l ++ (0 ∷ freedLabels old (drop (suc g) l)) ≡ goalL = rw (drop-cons l g 0 here, eq-eqb (at l g) old y) at F.labels in
+        let b : take g l ++ (0 ∷ freed_labels old (drop (suc g) l)) ≡ goalL = rw (drop-cons l g 0 here, eq-eqb (at l g) old y) at F.labels in
         let z : length {A = ℕ} (replicate P 0) ≡ P = length-replicate P 0 in
         let s : sets h (g * P) (replicate P 0) ≡ (take (g * P) h ++ replicate P 0) ++ drop (g * P + P) h
         = rw z at (sets-eq (replicate P 0) h (g * P) (omega (arith, fits, z))) in
@@ -93,12 +93,12 @@ module _ (P old T : ℕ) (goalH goalL h l : List ℕ) (g : ℕ) (F : Freeing P o
         let tl : take (suc g) (set l g 0) ≡ take g l ++ (0 ∷ []) = take-suc-set l g 0 here in
         record {
           heap = rw (more, add-one g, t, d, dl, ← (drop-drop P (g * P) h), append_assoc (take (g * P) h) (replicate P 0) rest) a;
-          labels = rw (add-one g, dl, tl, append_assoc (take g l) (0 ∷ []) (freedLabels old (drop (suc g) l))) b;
+          labels = rw (add-one g, dl, tl, append_assoc (take g l) (0 ∷ []) (freed_labels old (drop (suc g) l))) b;
         }
 
     -- as the code leaves page g
-    pub freeing-turn : (h' l' : List ℕ) → h' ≡ cond (eqb (at l g) old) (sets h (g * P) (replicate P 0)) h → l' ≡ cond (eqb (at l g) old) (set l g 0) l → Freeing P old goalH goalL h' l' (g + 1)
-    freeing-turn h' l' a b = rw (a, b) (go (eqb (at l g) old) refl)
+    pub freeing_turn : (h' l' : List ℕ) → h' ≡ cond (eqb (at l g) old) (sets h (g * P) (replicate P 0)) h → l' ≡ cond (eqb (at l g) old) (set l g 0) l → Freeing P old goalH goalL h' l' (g + 1)
+    freeing_turn h' l' a b = rw (a, b) (go (eqb (at l g) old) refl)
       where
         go : (t : Bool) → eqb (at l g) old ≡ t → Freeing P old goalH goalL (cond t (sets h (g * P) (replicate P 0)) h) (cond t (set l g 0) l) (g + 1)
         go true e = freed (eqb-true (at l g) old e)

@@ -2,7 +2,7 @@
 ghost use Rattle.std.specs.Prelude.{◌≡◌, cond, ◌+◌, ◌*◌, ◌≤◌, ◌<◌, length, set, replicate, eqb};
 ghost use Rattle.std.proofs.lemmas.List.Edits.{sets};
 ghost use Rattle.rules.specs.Ranges.{at};
-ghost use Rattle.rules.specs.Collection.{freedHeap, freedLabels};
+ghost use Rattle.rules.specs.Collection.{freed_heap, freed_labels};
 
 use hints::Shape;
 
@@ -43,8 +43,8 @@ pub fn free_page(heap: &mut [u32], labels: &mut [u16], k: Shape, g: usize)
 // Every page.
 pub fn free_pages(heap: &mut [u32], labels: &mut [u16], k: Shape)
     requires { (length heap.old ≡ k.pages * k.page) × (length labels.old ≡ k.pages) }
-    ensures heap_after { heap.new ≡ freedHeap k.page k.old labels.old heap.old }
-    ensures labels_after { labels.new ≡ freedLabels k.old labels.old }
+    ensures heap_after { heap.new ≡ freed_heap k.page k.old labels.old heap.old }
+    ensures labels_after { labels.new ≡ freed_labels k.old labels.old }
 {
     let mut g: usize = 0;
     while g < k.pages as usize {

@@ -8,10 +8,10 @@ pub mod sweep;
 ghost use Rattle.std.specs.Prelude.{◌≡◌, ◌+◌, ◌≤◌};
 ghost use Rattle.rules.specs.Lent.{lent};
 ghost use Rattle.rules.specs.Collection.{plainly, plan_of, collection};
-ghost use Rattle.rules.specs.Collect.{collectOutcome, acceptedCollect};
+ghost use Rattle.rules.specs.Collect.{collect_outcome, accepted_collect};
 ghost use Rattle.laws.specs.Valid.{Layout};
 ghost use Rattle.laws.specs.Safe.{SafeRun};
-ghost use Rattle.phases.specs.Code.{beginOf, shape_of, answer_of};
+ghost use Rattle.phases.specs.Code.{begin_of, shape_of, answer_of};
 
 use copies::Gather;
 use hints::Shape;
@@ -33,7 +33,7 @@ pub fn shape_of(r: Record) -> Shape
 
 // After the hints, which named `hinted` pages. With no copy page the fill is P, so that nothing fits.
 pub fn begin(r: Record, hinted: u32) -> Gather
-    ensures { result ≡ beginOf r hinted }
+    ensures { result ≡ begin_of r hinted }
 {
     Gather {
         tail: hinted,
@@ -77,7 +77,7 @@ pub fn run(
 ) -> Collected
     requires layout { Layout (lent heap.old labels.old links.old r) r.page r.pages }
     requires safe_run { SafeRun (plan_of (lent heap.old labels.old links.old r) plainly) (lent heap.old labels.old links.old r) roots.old hints.now }
-    ensures { collectOutcome result heap.new labels.new links.new roots.new ≡ acceptedCollect (collection plainly (lent heap.old labels.old links.old r) roots.old hints.now) }
+    ensures { collect_outcome result heap.new labels.new links.new roots.new ≡ accepted_collect (collection plainly (lent heap.old labels.old links.old r) roots.old hints.now) }
 {
     let k = shape_of(r);
     let hinted = hints::hint_words(labels, links, k, hints);

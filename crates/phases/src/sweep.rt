@@ -1,7 +1,7 @@
 // Step 3: each page in the queue in order, each object on it in walk order, each reference in order is
 // forwarded. Hinted pages stand first in the queue, and pages taken or kept meanwhile join it.
 ghost use Rattle.std.specs.Prelude.{◌≡◌, ◌+◌, ◌-◌, ◌≤◌, length};
-ghost use Rattle.rules.specs.Collection.{sweepReferences, sweepPage, sweepQueue};
+ghost use Rattle.rules.specs.Collection.{sweep_references, sweep_page, sweep_queue};
 ghost use Rattle.laws.specs.Safe.{SafeReferences, SafePage, SafeQueue};
 ghost use Rattle.hints.specs.Code.{plan};
 ghost use Rattle.copies.specs.Code.{state_of, Tied};
@@ -23,7 +23,7 @@ pub fn sweep_references(
     requires stop_in_bounds { stop ≤ length heap.old }
     requires safe_references { SafeReferences (plan k) (stop - first) first (state_of heap.old labels.old links.old start) }
     requires tied { Tied k labels.old links.old start }
-    ensures result_after { state_of heap.new labels.new links.new result ≡ sweepReferences (plan k) (stop - first) first (state_of heap.old labels.old links.old start) }
+    ensures result_after { state_of heap.new labels.new links.new result ≡ sweep_references (plan k) (stop - first) first (state_of heap.old labels.old links.old start) }
     ensures tied_2 { Tied k labels.new links.new result }
 {
     let mut g = start;
@@ -52,7 +52,7 @@ pub fn sweep_page(
     requires page_in_bounds { base + k.page ≤ length heap.old }
     requires safe_page { SafePage (plan k) k.page base k.page (state_of heap.old labels.old links.old start) }
     requires tied { Tied k labels.old links.old start }
-    ensures result_after { state_of heap.new labels.new links.new result ≡ sweepPage (plan k) k.page base k.page (state_of heap.old labels.old links.old start) }
+    ensures result_after { state_of heap.new labels.new links.new result ≡ sweep_page (plan k) k.page base k.page (state_of heap.old labels.old links.old start) }
     ensures tied_2 { Tied k labels.new links.new result }
 {
     let mut g = start;
@@ -87,7 +87,7 @@ pub fn sweep_queue(
     requires links_len { length links.old ≡ k.pages }
     requires safe_queue { SafeQueue (plan k) k.pages 0 (state_of heap.old labels.old links.old start) }
     requires tied { Tied k labels.old links.old start }
-    ensures result_after { state_of heap.new labels.new links.new result ≡ sweepQueue (plan k) k.pages 0 (state_of heap.old labels.old links.old start) }
+    ensures result_after { state_of heap.new labels.new links.new result ≡ sweep_queue (plan k) k.pages 0 (state_of heap.old labels.old links.old start) }
     ensures tied_2 { Tied k labels.new links.new result }
 {
     let mut g = start;

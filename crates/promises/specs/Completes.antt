@@ -8,39 +8,39 @@ use mathlib.Core.List.Memᴰ
 use mathlib.Core.List.{List, [], ◌∷◌, Memᴰ}
 use native.Mathlib.Omega.{arith}
 use Rattle.rules.specs.Ranges.{each}
-use Rattle.rules.specs.Pages.{pagesNamed}
-use Rattle.rules.specs.Lent.{Lent, isValid}
-use Rattle.rules.specs.Walk.{isReference}
-use Rattle.rules.specs.Sound.{InUse, Sound, isSound}
+use Rattle.rules.specs.Pages.{pages_named}
+use Rattle.rules.specs.Lent.{Lent, is_valid}
+use Rattle.rules.specs.Walk.{is_reference}
+use Rattle.rules.specs.Sound.{InUse, Sound, is_sound}
 use Rattle.rules.specs.Collection.{plainly, collection}
-use Rattle.rules.specs.Collect.{CollectOutcome, refusalOfCollect, collect}
-use Rattle.rules.specs.Demands.{Hinted, ReachedBy, staying, byRoot, byReference, OnHintedOrKept, HoldsCopy, Faithful, GoodRoots}
-use Rattle.laws.specs.Collect.{ready-is, collect-refusal}
-use Rattle.kept.specs.Accepted.{collect-says}
-use Rattle.theory.specs.Sums.{member-length}
-use Rattle.theory.specs.SoundHeap.{object-nonzero}
-use Rattle.theory.specs.Collections.{collect-faithful, collect-ready}
+use Rattle.rules.specs.Collect.{CollectOutcome, refusal_of_collect, collect}
+use Rattle.rules.specs.Demands.{Hinted, ReachedBy, staying, by_root, by_reference, OnHintedOrKept, HoldsCopy, Faithful, GoodRoots}
+use Rattle.laws.specs.Collect.{ready_is, collect_refusal}
+use Rattle.kept.specs.Accepted.{collect_says}
+use Rattle.theory.specs.Sums.{member_length}
+use Rattle.theory.specs.SoundHeap.{object_nonzero}
+use Rattle.theory.specs.Collections.{collect_faithful, collect_ready}
 
 module _ (m : Lent) (roots hints : List ℕ) where
   -- "every collection of a sound heap with good roots completes"
   pub completes : Sound m → GoodRoots m roots → (collect m roots hints).refusal ≡ 0
-  completes S good = collect-refusal m roots hints ∙ ready-is m roots (record { sound = S; roots = good })
+  completes S good = collect_refusal m roots hints ∙ ready_is m roots (record { sound = S; roots = good })
 
   -- and no other does
-  pub completed-sound : (collect m roots hints).refusal ≡ 0 → Sound m
-  completed-sound z = (collect-says m roots hints z).ready.sound
+  pub completed_sound : (collect m roots hints).refusal ≡ 0 → Sound m
+  completed_sound z = (collect_says m roots hints z).ready.sound
 
-  pub completed-roots : (collect m roots hints).refusal ≡ 0 → GoodRoots m roots
-  completed-roots z = (collect-says m roots hints z).ready.roots
+  pub completed_roots : (collect m roots hints).refusal ≡ 0 → GoodRoots m roots
+  completed_roots z = (collect_says m roots hints z).ready.roots
 
   -- what it leaves has good roots too, so that a program may collect again
-  pub completed-leaves : (collect m roots hints).refusal ≡ 0 → GoodRoots (collect m roots hints).lent (collect m roots hints).roots
-  completed-leaves z = (collect-ready m roots hints (sym (collect-refusal m roots hints) ∙ z)).roots
+  pub completed_leaves : (collect m roots hints).refusal ≡ 0 → GoodRoots (collect m roots hints).lent (collect m roots hints).roots
+  completed_leaves z = (collect_ready m roots hints (sym (collect_refusal m roots hints) ∙ z)).roots
 
   -- "8 is shown never to occur": of any memory, roots and hints
-  pub never-eight : (collect m roots hints).refusal ≢ 8
-  unfolding refusalOfCollect
-  never-eight z = go (isValid m) (isSound m) (each (isReference m) roots) (sym (collect-refusal m roots hints) ∙ z)
+  pub never_eight : (collect m roots hints).refusal ≢ 8
+  unfolding refusal_of_collect
+  never_eight z = go (is_valid m) (is_sound m) (each (is_reference m) roots) (sym (collect_refusal m roots hints) ∙ z)
     where
       go : (v s r : Bool) → ◌≡◌ {A = ℕ} (cond v (cond s (cond r 0 6) 7) 1) 8 → ⊥
       go true true true q = omega arith
@@ -60,7 +60,7 @@ module _ (m : Lent) (roots : List ℕ) (let_go : (r : ℕ) → Memᴰ r roots �
 
   -- no page is hinted
   unhinted : (g : ℕ) → Hinted m [] g → ⊥
-  unfolding pagesNamed
+  unfolding pages_named
   unhinted g h = Memᴰ.not-nil h.named
 
   -- so nothing is reached but from what stays on kept pages
@@ -68,18 +68,18 @@ module _ (m : Lent) (roots : List ℕ) (let_go : (r : ℕ) → Memᴰ r roots �
       → {x : ℕ} → ReachedBy m roots (OnHintedOrKept m [] kept Pairs) Through x → ⊥
   unreached none (staying ob (inl h)) = unhinted _ h
   unreached none (staying ob (inr q)) = none _ q.page
-  unreached none (byRoot {x = x} ob k) = object-nonzero m S x ob (let_go x k)
-  unreached none (byReference z i r t h e ob) = unreached none r
+  unreached none (by_root {x = x} ob k) = object_nonzero m S x ob (let_go x k)
+  unreached none (by_reference z i r t h e ob) = unreached none r
 
-  pub comes-free : (g : ℕ) → InUse (collect m roots []).lent g → ⊥
-  comes-free g u = let (Pairs, F) = collect-faithful m roots [] (sym (collect-refusal m roots []) ∙ accepts) in free Pairs F
+  pub comes_free : (g : ℕ) → InUse (collect m roots []).lent g → ⊥
+  comes_free g u = let (Pairs, F) = collect_faithful m roots [] (sym (collect_refusal m roots []) ∙ accepts) in free Pairs F
     where
       free : (Pairs : ℕ → ℕ → Type 0) → Faithful m roots [] o (collection plainly m roots []) Pairs → ⊥
       free Pairs F = go (F.pages g u)
         where
           -- the first kept page would hold something that is reached without it
           none : (h : ℕ) → Memᴰ h (collection plainly m roots []).kept → ⊥
-          none h k = unreached (λ j q. Memᴰ.not-nil q) (F.keeps.holds 0 (member-length k)).1.reached
+          none h k = unreached (λ j q. Memᴰ.not-nil q) (F.keeps.holds 0 (member_length k)).1.reached
 
           go : Hinted m [] g ⊎ (HoldsCopy m Pairs g ⊎ Memᴰ g (collection plainly m roots []).kept) → ⊥
           go (inl h) = unhinted g h

@@ -9,5 +9,5 @@ pub mod Hinted
 pub mod Landed
 pub mod Room
 pub mod Default
-pub mod Contracts
+pub mod CallContracts
 pub mod Programs

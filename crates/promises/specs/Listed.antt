@@ -6,10 +6,10 @@ use mathlib.Core.List.Memᴰ
 use mathlib.Core.List.{List, [], ◌∷◌, Memᴰ}
 use Rattle.rules.specs.Ranges.{block}
 use Rattle.rules.specs.Lent.{Lent}
-use Rattle.rules.specs.Walk.{starts, isInUse}
+use Rattle.rules.specs.Walk.{starts, is_in_use}
 use Rattle.rules.specs.Sound.{InUse, IsObject}
-use Rattle.laws.specs.Lists.{block-mem}
-use Rattle.theory.specs.Sums.{gather, gather-mem}
+use Rattle.laws.specs.Lists.{block_mem}
+use Rattle.theory.specs.Sums.{gather, gather_mem}
 
 -- each of the list is so
 unfoldable pub Each : (ℕ → Type 0) → List ℕ → Type 0
@@ -27,13 +27,13 @@ each_of Q (y ∷ ys) (q, all) x k = go (each_of Q ys all x) (Memᴰ.cases_cons k
 
 -- the objects, page by page
 unfoldable pub objects : Lent → List ℕ
-objects m = gather (isInUse m) (starts m) (block 1 m.rec.pages)
+objects m = gather (is_in_use m) (starts m) (block 1 m.rec.pages)
 
-pub each-object : (m : Lent) (Q : ℕ → Type 0) → Each Q (objects m) → (x : ℕ) → IsObject m x → Q x
-unfolding objects isInUse
-each-object m Q all x ob =
-    let u = ob.inUse in
+pub each_object : (m : Lent) (Q : ℕ → Type 0) → Each Q (objects m) → (x : ℕ) → IsObject m x → Q x
+unfolding objects is_in_use
+each_object m Q all x ob =
+    let u = ob.in_use in
     let g : ℕ = x / m.rec.page in
     each_of Q (objects m) all x
-    (gather-mem (isInUse m) (starts m) (block 1 m.rec.pages) g x (block-mem 1 m.rec.pages g u.low u.high)
+    (gather_mem (is_in_use m) (starts m) (block 1 m.rec.pages) g x (block_mem 1 m.rec.pages g u.low u.high)
     (rw (le-leb 1 g u.low, lt-ltb g m.rec.pages u.high, eq-eqb _ _ u.label) refl) ob.met)

@@ -2,31 +2,31 @@
 use Rattle.std.specs.Prelude.{Bool, cond, not, ◌&&◌, List, ℕ, length, eqb}
 use Rattle.rules.specs.declared.Collected.{Collected}
 use Rattle.rules.specs.Ranges.{block, each, has, count, sum}
-use Rattle.rules.specs.Pages.{pagesNamed, isFree, pagesNeeded}
-use Rattle.rules.specs.Lent.{Lent, lent, isValid}
-use Rattle.rules.specs.Walk.{wordsOn, isReference}
-use Rattle.rules.specs.Sound.{isSound}
+use Rattle.rules.specs.Pages.{pages_named, is_free, pages_needed}
+use Rattle.rules.specs.Lent.{Lent, lent, is_valid}
+use Rattle.rules.specs.Walk.{words_on, is_reference}
+use Rattle.rules.specs.Sound.{is_sound}
 use Rattle.rules.specs.Collection.{Collection, plainly, collection}
 
 -- page g is in use, and one "that no hint names"
-unfoldable pub isUnhinted : Lent → List ℕ → ℕ → Bool
-isUnhinted m hints g = not (isFree m.labels g) && not (has g (pagesNamed m.rec.page 1 m.rec.pages hints))
+unfoldable pub is_unhinted : Lent → List ℕ → ℕ → Bool
+is_unhinted m hints g = not (is_free m.labels g) && not (has g (pages_named m.rec.page 1 m.rec.pages hints))
 
 -- k': how many there are. Since Q-3 no rule asks for it; "the old figure", 2k' - 1, is what Q-3's is compared with
-unfoldable pub pagesUnhinted : Lent → List ℕ → ℕ
-pagesUnhinted m hints = count (isUnhinted m hints) (block 1 m.rec.pages)
+unfoldable pub pages_unhinted : Lent → List ℕ → ℕ
+pages_unhinted m hints = count (is_unhinted m hints) (block 1 m.rec.pages)
 
 -- Q-3: "Let W be the words in objects on unhinted pages in use."
-unfoldable pub wordsUnhinted : Lent → List ℕ → ℕ
-wordsUnhinted m hints = sum (λ g. cond (isUnhinted m hints g) (wordsOn m g) 0) (block 1 m.rec.pages)
+unfoldable pub words_unhinted : Lent → List ℕ → ℕ
+words_unhinted m hints = sum (λ g. cond (is_unhinted m hints g) (words_on m g) 0) (block 1 m.rec.pages)
 
 -- "the new figure" of these hints. Since Q-6 no call asks for W or for this; it bounds the pages that a collection takes
-abbrev pub neededFor : Lent → List ℕ → ℕ
-neededFor m hints = pagesNeeded m.rec.page (wordsUnhinted m hints)
+abbrev pub needed_for : Lent → List ℕ → ℕ
+needed_for m hints = pages_needed m.rec.page (words_unhinted m hints)
 
 -- the refusal's number, 0 if accepted: "Checks go by number, except that collect tests 1, 7, 6, 8", and by Q-6 the last is gone
-unfoldable pub refusalOfCollect : Lent → List ℕ → ℕ
-refusalOfCollect m roots = cond (isValid m) (cond (isSound m) (cond (each (isReference m) roots) 0 6) 7) 1
+unfoldable pub refusal_of_collect : Lent → List ℕ → ℕ
+refusal_of_collect m roots = cond (is_valid m) (cond (is_sound m) (cond (each (is_reference m) roots) 0 6) 7) 1
 
 -- the refusal's number; "four counts: pages hinted, pages taken, objects copied, words copied", which by Q-6 "gain pages kept and fillers";
 -- memory and record, and the root cells, as the call leaves them. The hints stay as they were.
@@ -42,8 +42,8 @@ pub record CollectOutcome : Type 0 where
   pub roots : List ℕ
 
 -- the code's answer, with the heap, labels, links and root cells that it leaves
-abbrev pub collectOutcome : Collected → List ℕ → List ℕ → List ℕ → List ℕ → CollectOutcome
-collectOutcome x heap labels links roots = record {
+abbrev pub collect_outcome : Collected → List ℕ → List ℕ → List ℕ → List ℕ → CollectOutcome
+collect_outcome x heap labels links roots = record {
   refusal = x.refusal;
   hinted = x.hinted;
   taken = x.taken;
@@ -55,11 +55,11 @@ collectOutcome x heap labels links roots = record {
   roots = roots;
 }
 
-unfoldable pub refusedCollect : ℕ → Lent → List ℕ → CollectOutcome
-refusedCollect e m roots = record { refusal = e; hinted = 0; taken = 0; objects = 0; words = 0; kept = 0; fillers = 0; lent = m; roots = roots }
+unfoldable pub refused_collect : ℕ → Lent → List ℕ → CollectOutcome
+refused_collect e m roots = record { refusal = e; hinted = 0; taken = 0; objects = 0; words = 0; kept = 0; fillers = 0; lent = m; roots = roots }
 
-unfoldable pub acceptedCollect : Collection → CollectOutcome
-acceptedCollect c = record {
+unfoldable pub accepted_collect : Collection → CollectOutcome
+accepted_collect c = record {
   refusal = 0;
   hinted = c.hinted;
   taken = length c.taken;
@@ -73,5 +73,5 @@ acceptedCollect c = record {
 
 unfoldable pub collect : Lent → List ℕ → List ℕ → CollectOutcome
 collect m roots hints =
-    let e = refusalOfCollect m roots in
-    cond (eqb e 0) (acceptedCollect (collection plainly m roots hints)) (refusedCollect e m roots)
+    let e = refusal_of_collect m roots in
+    cond (eqb e 0) (accepted_collect (collection plainly m roots hints)) (refused_collect e m roots)

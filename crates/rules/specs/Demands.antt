@@ -5,13 +5,13 @@ use Rattle.std.specs.Prelude.{◌≡◌, ◌≢◌, ◌⊎◌, ℕ, ◌+◌, ◌
 use mathlib.Core.List.{List, [], ◌∷◌, Memᴰ}
 use Rattle.rules.specs.Ranges.{at}
 use Rattle.rules.specs.Header.{size_of}
-use Rattle.rules.specs.Pages.{pagesNamed}
+use Rattle.rules.specs.Pages.{pages_named}
 use Rattle.rules.specs.Lent.{Lent}
 use Rattle.rules.specs.Walk.{stop}
 use Rattle.rules.specs.Sound.{InUse, IsObject, Sound, refs, payload}
-use Rattle.rules.specs.Calls.{Outcome, start, allocate, lookUp, load, store}
+use Rattle.rules.specs.Calls.{Outcome, start, allocate, look_up, load, store}
 use Rattle.rules.specs.Collection.{plainly, Collection, collection}
-use Rattle.rules.specs.Collect.{CollectOutcome, collect, neededFor}
+use Rattle.rules.specs.Collect.{CollectOutcome, collect, needed_for}
 
 -- ---- demand 1: "Bad calls get a refusal number from the table; the value is then 0, and record and memory are as before."
 
@@ -45,7 +45,7 @@ pub record SameCollected (m : Lent) (cells : List ℕ) (o : CollectOutcome) : Ty
 pub record Demand1 : Type 0 where
   pub starts : (m : Lent) (P T : ℕ) → (start m P T).refusal ≢ 0 → Same m (start m P T)
   pub allocates : (m : Lent) (d p : ℕ) → (allocate m d p).refusal ≢ 0 → Same m (allocate m d p)
-  pub looksUp : (m : Lent) (a : ℕ) → (lookUp m a).refusal ≢ 0 → SameAt m a (lookUp m a)
+  pub looks_up : (m : Lent) (a : ℕ) → (look_up m a).refusal ≢ 0 → SameAt m a (look_up m a)
   pub loads : (m : Lent) (a i : ℕ) → (load m a i).refusal ≢ 0 → SameAt m a (load m a i)
   pub stores : (m : Lent) (a i v : ℕ) → (store m a i v).refusal ≢ 0 → SameAt m a (store m a i v)
   pub collects : (m : Lent) (roots hints : List ℕ) → (collect m roots hints).refusal ≢ 0 → SameCollected m roots (collect m roots hints)
@@ -53,26 +53,26 @@ pub record Demand1 : Type 0 where
 -- ---- demand 3: any calls
 
 pub data Call : Type 0 where
-  toStart : (P T : ℕ) → Call
-  toAllocate : (d p : ℕ) → Call
-  toLookUp : (a : ℕ) → Call
-  toLoad : (a i : ℕ) → Call
-  toStore : (a i v : ℕ) → Call
-  toCollect : (roots hints : List ℕ) → Call
+  to_start : (P T : ℕ) → Call
+  to_allocate : (d p : ℕ) → Call
+  to_look_up : (a : ℕ) → Call
+  to_load : (a i : ℕ) → Call
+  to_store : (a i v : ℕ) → Call
+  to_collect : (roots hints : List ℕ) → Call
 
 -- what a call leaves, accepted or refused, the record with it
 unfoldable pub after : Lent → Call → Lent
-after m (toStart P T) = (start m P T).lent
-after m (toAllocate d p) = (allocate m d p).lent
-after m (toLookUp a) = (lookUp m a).lent
-after m (toLoad a i) = (load m a i).lent
-after m (toStore a i v) = (store m a i v).lent
-after m (toCollect roots hints) = (collect m roots hints).lent
+after m (to_start P T) = (start m P T).lent
+after m (to_allocate d p) = (allocate m d p).lent
+after m (to_look_up a) = (look_up m a).lent
+after m (to_load a i) = (load m a i).lent
+after m (to_store a i v) = (store m a i v).lent
+after m (to_collect roots hints) = (collect m roots hints).lent
 
 -- "through any calls .., where nothing else writes heap or tables and each call gets the record last returned"
-unfoldable pub afterAll : Lent → List Call → Lent
-afterAll m [] = m
-afterAll m (c ∷ cs) = afterAll (after m c) cs
+unfoldable pub after_all : Lent → List Call → Lent
+after_all m [] = m
+after_all m (c ∷ cs) = after_all (after m c) cs
 
 -- "From a fresh start": what an accepted start on any memory, and any calls after it, leave
 pub record FromStart (m : Lent) : Type 0 where
@@ -81,14 +81,14 @@ pub record FromStart (m : Lent) : Type 0 where
   pub T : ℕ
   pub fresh : (start lent P T).refusal ≡ 0
   pub calls : List Call
-  pub here : m ≡ afterAll (start lent P T).lent calls
+  pub here : m ≡ after_all (start lent P T).lent calls
 
 -- ---- demand 3: one collection
 
 -- page g is hinted: a hint word names it, as its own page or as that of the word before (Q-1), and it is in use
 pub record Hinted (m : Lent) (hints : List ℕ) (g : ℕ) : Type 0 where
-  pub inUse : InUse m g
-  pub named : Memᴰ g (pagesNamed m.rec.page 1 m.rec.pages hints)
+  pub in_use : InUse m g
+  pub named : Memᴰ g (pages_named m.rec.page 1 m.rec.pages hints)
 
 abbrev pub OnHinted : Lent → List ℕ → ℕ → Type 0
 OnHinted m hints x = Hinted m hints (x / m.rec.page)
@@ -97,8 +97,8 @@ OnHinted m hints x = Hinted m hints (x / m.rec.page)
 -- reached itself, if `Through` admits that object.
 pub data ReachedBy (m : Lent) (roots : List ℕ) (Stay Through : ℕ → Type 0) : ℕ → Type 0 where
   staying : {x : ℕ} → IsObject m x → Stay x → ReachedBy m roots Stay Through x
-  byRoot : {x : ℕ} → IsObject m x → Memᴰ x roots → ReachedBy m roots Stay Through x
-  byReference : {x : ℕ} (z i : ℕ) → ReachedBy m roots Stay Through z → Through z → i < refs m z → x ≡ payload m z i
+  by_root : {x : ℕ} → IsObject m x → Memᴰ x roots → ReachedBy m roots Stay Through x
+  by_reference : {x : ℕ} (z i : ℕ) → ReachedBy m roots Stay Through z → Through z → i < refs m z → x ≡ payload m z i
       → IsObject m x → ReachedBy m roots Stay Through x
 
 -- "those that were on hinted pages or could be reached from them or the root cells", by references of any objects.
@@ -122,10 +122,10 @@ pub record Paired (m : Lent) (roots : List ℕ) (Stay : ℕ → Type 0) (o : Col
   -- "sizes, data words, references and roots agree under the pairing"
   pub sizes : (x y : ℕ) → Pairs x y → size_of (at o.lent.heap y) ≡ size_of (at m.heap x)
   pub counts : (x y : ℕ) → Pairs x y → refs o.lent y ≡ refs m x
-  pub dataWords : (x y i : ℕ) → Pairs x y → refs m x ≤ i → i + 1 < size_of (at m.heap x) → payload o.lent y i ≡ payload m x i
+  pub data_words : (x y i : ℕ) → Pairs x y → refs m x ≤ i → i + 1 < size_of (at m.heap x) → payload o.lent y i ≡ payload m x i
   pub references : (x y i : ℕ) → Pairs x y → i < refs m x → Becomes Pairs (payload m x i) (payload o.lent y i)
-  pub rootCells : length o.roots ≡ length roots
-  pub rootsAgree : (j : ℕ) → j < length roots → Becomes Pairs (at roots j) (at o.roots j)
+  pub root_cells : length o.roots ≡ length roots
+  pub roots_agree : (j : ℕ) → j < length roots → Becomes Pairs (at roots j) (at o.roots j)
 
 -- page g "holds a copy": an object afterwards that stood elsewhere before
 pub record HoldsCopy (m : Lent) (Pairs : ℕ → ℕ → Type 0) (g : ℕ) : Type 0 where
@@ -204,7 +204,7 @@ pub record Keeps (m : Lent) (roots hints : List ℕ) (o : CollectOutcome) (c : C
   -- each was in use, no hint named it, and it is in use
   pub used : (g : ℕ) → Memᴰ g c.kept → InUse m g
   pub unhinted : (g : ℕ) → Memᴰ g c.kept → Hinted m hints g → ⊥
-  pub inUse : (g : ℕ) → Memᴰ g c.kept → InUse o.lent g
+  pub in_use : (g : ℕ) → Memᴰ g c.kept → InUse o.lent g
   -- "its uncopied objects all stay": each object on it stays or leaves a filler
   pub all : (x : ℕ) → IsObject m x → Memᴰ (x / m.rec.page) c.kept → Pairs x x ⊎ Memᴰ x c.fillers
   -- each is kept for an object on it,
@@ -246,7 +246,7 @@ pub record Faithful (m : Lent) (roots hints : List ℕ) (o : CollectOutcome) (c 
 -- page g is taken by a collection: free before it, in use after
 pub record Took (m : Lent) (o : CollectOutcome) (g : ℕ) : Type 0 where
   pub free : at m.labels g ≡ 0
-  pub inUse : InUse o.lent g
+  pub in_use : InUse o.lent g
 
 -- The list `taken`, in order, has each page that is taken, and no other, once; the call returns their number. Q-3:
 -- there are never more than the figure by words.
@@ -258,7 +258,7 @@ pub record FindsPages (m : Lent) (hints : List ℕ) (o : CollectOutcome) (taken 
   pub stacked : (g h : ℕ) → Took m o g → Took m o h → g < h → ((j : ℕ) → g < j → j < h → Took m o j → ⊥)
       → Overfills o.lent g (size_of (at o.lent.heap (h * m.rec.page)))
   pub count : o.taken ≡ length taken
-  pub few : length taken ≤ neededFor m hints
+  pub few : length taken ≤ needed_for m hints
 
 -- "good roots"
 abbrev pub GoodRoots : Lent → List ℕ → Type 0

@@ -3,7 +3,7 @@
 -- pages taken, objects copied and words copied are the same numbers."
 use Rattle.std.specs.Prelude.{◌≡◌, ℕ}
 use mathlib.Core.List.{List, Memᴰ}
-use Rattle.rules.specs.Pages.{pagesNamed}
+use Rattle.rules.specs.Pages.{pages_named}
 use Rattle.rules.specs.Lent.{Lent}
 use Rattle.rules.specs.Sound.{IsObject}
 use Rattle.rules.specs.Collect.{CollectOutcome, collect}
@@ -11,7 +11,7 @@ use Rattle.rules.specs.Demands.{Took, FaithfulUnkept}
 
 -- "no hint names a page taken by the first", as its own page or, by Q-1, as that of the word before
 abbrev pub NamesNoneTaken : Lent → List ℕ → CollectOutcome → Type 0
-NamesNoneTaken m hints a = (g : ℕ) → Memᴰ g (pagesNamed m.rec.page 1 m.rec.pages hints) → Took m a g → ⊥
+NamesNoneTaken m hints a = (g : ℕ) → Memᴰ g (pages_named m.rec.page 1 m.rec.pages hints) → Took m a g → ⊥
 
 -- a is what the first collection leaves of m, and b what the second does
 pub record InARow (m : Lent) (roots hints : List ℕ) (a b : CollectOutcome) : Type 0 where
@@ -23,7 +23,7 @@ pub record InARow (m : Lent) (roots hints : List ℕ) (a b : CollectOutcome) : T
   pub second : b ≡ collect a.lent a.roots hints
   -- "If no hint names a page taken by the first, and the second keeps none either"
   pub names : NamesNoneTaken m hints a
-  pub keptAgain : b.kept ≡ 0
+  pub kept_again : b.kept ≡ 0
 
 -- "then the same objects remain, up to the pairing": `Pairs y z` says that the object at y after the first is the one at z after the second
 pub record SameObjects (a : CollectOutcome) (hints : List ℕ) (b : CollectOutcome) (Pairs : ℕ → ℕ → Type 0) : Type 0 where

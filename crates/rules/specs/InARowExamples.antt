@@ -5,11 +5,11 @@ use Rattle.std.proofs.Common.{sym, ap, ◌∙◌, inl, inr, arith}
 use mathlib.Core.List.Memᴰ
 use mathlib.Core.List.{List, [], ◌∷◌, ◌++◌, Memᴰ}
 use Rattle.rules.specs.Ranges.{at}
-use Rattle.rules.specs.Header.{headerOf}
-use Rattle.rules.specs.Pages.{pageNamed, pageNamedBefore, pagesOfHint, pagesNamed}
+use Rattle.rules.specs.Header.{header_of}
+use Rattle.rules.specs.Pages.{page_named, page_named_before, pages_of_hint, pages_named}
 use Rattle.rules.specs.Lent.{Lent}
 use Rattle.rules.specs.Collect.{CollectOutcome, collect}
-use Rattle.rules.specs.Unfolded.{theRules}
+use Rattle.rules.specs.Unfolded.{the_rules}
 use Rattle.rules.specs.Heaps.{page, memory}
 use Rattle.rules.specs.Demands.{Took}
 use Rattle.rules.specs.InARow.{NamesNoneTaken, InARow, SameNumbers}
@@ -22,7 +22,7 @@ next a hints = collect a.lent a.roots hints
 -- then to page 1
 unfoldable leg : Lent
 leg = memory (0 ∷ 1 ∷ 1 ∷ 1 ∷ 0 ∷ 0 ∷ [])
-    (page [] ++ page (headerOf 2 1 ∷ 24 ∷ 5 ∷ []) ++ page (headerOf 4 0 ∷ 6 ∷ 7 ∷ 8 ∷ 9 ∷ []) ++ page (headerOf 3 0 ∷ 1 ∷ 2 ∷ 3 ∷ []) ++ page [] ++ page [])
+    (page [] ++ page (header_of 2 1 ∷ 24 ∷ 5 ∷ []) ++ page (header_of 4 0 ∷ 6 ∷ 7 ∷ 8 ∷ 9 ∷ []) ++ page (header_of 3 0 ∷ 1 ∷ 2 ∷ 3 ∷ []) ++ page [] ++ page [])
 
 unfoldable leg1 : CollectOutcome
 leg1 = collect leg (8 ∷ []) (17 ∷ [])
@@ -35,7 +35,7 @@ leg2 = next leg1 (17 ∷ [])
 -- Then pages 3 and 5 are free, and all three are copied there; the filler is not
 unfoldable crowd : Lent
 crowd = memory (0 ∷ 1 ∷ 1 ∷ 1 ∷ 0 ∷ 1 ∷ [])
-    (page [] ++ page (headerOf 3 0 ∷ 1 ∷ 2 ∷ 3 ∷ headerOf 2 0 ∷ 4 ∷ 5 ∷ []) ++ page (headerOf 4 0 ∷ 6 ∷ 7 ∷ 8 ∷ 9 ∷ []) ++ page (headerOf 4 0 ∷ []) ++ page [] ++ page (headerOf 7 0 ∷ []))
+    (page [] ++ page (header_of 3 0 ∷ 1 ∷ 2 ∷ 3 ∷ header_of 2 0 ∷ 4 ∷ 5 ∷ []) ++ page (header_of 4 0 ∷ 6 ∷ 7 ∷ 8 ∷ 9 ∷ []) ++ page (header_of 4 0 ∷ []) ++ page [] ++ page (header_of 7 0 ∷ []))
 
 unfoldable crowd1 : CollectOutcome
 crowd1 = collect crowd (8 ∷ 16 ∷ 12 ∷ []) []
@@ -45,7 +45,7 @@ crowd2 = next crowd1 []
 
 -- A hint names a page that the first takes: 24 is on page 3, and the word before it on page 2. The object goes there, and then stays
 unfoldable past : Lent
-past = memory (0 ∷ 1 ∷ 0 ∷ 0 ∷ []) (page [] ++ page (headerOf 4 0 ∷ 1 ∷ 2 ∷ 3 ∷ 4 ∷ []) ++ page [] ++ page [])
+past = memory (0 ∷ 1 ∷ 0 ∷ 0 ∷ []) (page [] ++ page (header_of 4 0 ∷ 1 ∷ 2 ∷ 3 ∷ 4 ∷ []) ++ page [] ++ page [])
 
 unfoldable past1 : CollectOutcome
 past1 = collect past (8 ∷ []) (24 ∷ [])
@@ -56,7 +56,7 @@ past2 = next past1 (24 ∷ [])
 -- The second keeps a page. Objects of 5, 3, 5 and 3 words fill pages 1 and 2. As 5, 5, 3, 3 they take three pages, and leave two
 unfoldable full : Lent
 full = memory (0 ∷ 1 ∷ 1 ∷ 0 ∷ 0 ∷ 0 ∷ [])
-    (page [] ++ page (headerOf 4 0 ∷ 1 ∷ 1 ∷ 1 ∷ 1 ∷ headerOf 2 0 ∷ 2 ∷ 2 ∷ []) ++ page (headerOf 4 0 ∷ 3 ∷ 3 ∷ 3 ∷ 3 ∷ headerOf 2 0 ∷ 4 ∷ 4 ∷ []) ++ page [] ++ page [] ++ page [])
+    (page [] ++ page (header_of 4 0 ∷ 1 ∷ 1 ∷ 1 ∷ 1 ∷ header_of 2 0 ∷ 2 ∷ 2 ∷ []) ++ page (header_of 4 0 ∷ 3 ∷ 3 ∷ 3 ∷ 3 ∷ header_of 2 0 ∷ 4 ∷ 4 ∷ []) ++ page [] ++ page [] ++ page [])
 
 unfoldable full1 : CollectOutcome
 full1 = collect full (8 ∷ 16 ∷ 13 ∷ 21 ∷ []) []
@@ -74,31 +74,31 @@ record Tried : Type 0 where
   same : SameNumbers leg1 leg2
   -- the numbers on each
   accepted : (leg1.refusal ≡ 0) × (leg2.refusal ≡ 0) × (crowd1.refusal ≡ 0) × (crowd2.refusal ≡ 0) × (past1.refusal ≡ 0) × (past2.refusal ≡ 0) × (full1.refusal ≡ 0) × (full2.refusal ≡ 0)
-  leg-first : Counts leg1 1 1 2 7 0 0
-  leg-second : Counts leg2 1 1 2 7 0 0
-  crowd-first : Counts crowd1 0 1 1 4 2 1
-  crowd-second : Counts crowd2 0 2 3 12 0 0
+  leg_first : Counts leg1 1 1 2 7 0 0
+  leg_second : Counts leg2 1 1 2 7 0 0
+  crowd_first : Counts crowd1 0 1 1 4 2 1
+  crowd_second : Counts crowd2 0 2 3 12 0 0
   past_first : Counts past1 0 1 1 5 0 0
-  past-second : Counts past2 1 0 0 0 0 0
-  full-first : Counts full1 0 3 4 16 0 0
-  full-second : Counts full2 0 2 3 13 1 0
-  past-record : (at past1.lent.labels 2 ≡ past1.lent.rec.label) × (past1.lent.rec.pages ≡ 4)
+  past_second : Counts past2 1 0 0 0 0 0
+  full_first : Counts full1 0 3 4 16 0 0
+  full_second : Counts full2 0 2 3 13 1 0
+  past_record : (at past1.lent.labels 2 ≡ past1.lent.rec.label) × (past1.lent.rec.pages ≡ 4)
 
 tried : Tried
-unfolding theRules leg leg1 leg2 crowd crowd1 crowd2 past past1 past2 full full1 full2
+unfolding the_rules leg leg1 leg2 crowd crowd1 crowd2 past past1 past2 full full1 full2
 tried = record {
-  met = record { first = refl; accepted = refl; kept = refl; second = refl; names = λ g k t. absurd (unnamed g k t); keptAgain = refl };
+  met = record { first = refl; accepted = refl; kept = refl; second = refl; names = λ g k t. absurd (unnamed g k t); kept_again = refl };
   same = record { hinted = refl; taken = refl; objects = refl; words = refl };
   accepted = (refl, refl, refl, refl, refl, refl, refl, refl);
-  leg-first = (refl, refl, refl, refl, refl, refl);
-  leg-second = (refl, refl, refl, refl, refl, refl);
-  crowd-first = (refl, refl, refl, refl, refl, refl);
-  crowd-second = (refl, refl, refl, refl, refl, refl);
+  leg_first = (refl, refl, refl, refl, refl, refl);
+  leg_second = (refl, refl, refl, refl, refl, refl);
+  crowd_first = (refl, refl, refl, refl, refl, refl);
+  crowd_second = (refl, refl, refl, refl, refl, refl);
   past_first = (refl, refl, refl, refl, refl, refl);
-  past-second = (refl, refl, refl, refl, refl, refl);
-  full-first = (refl, refl, refl, refl, refl, refl);
-  full-second = (refl, refl, refl, refl, refl, refl);
-  past-record = (refl, refl);
+  past_second = (refl, refl, refl, refl, refl, refl);
+  full_first = (refl, refl, refl, refl, refl, refl);
+  full_second = (refl, refl, refl, refl, refl, refl);
+  past_record = (refl, refl);
 }
   where
     -- the hint names page 2, twice, and that was in use
@@ -114,38 +114,38 @@ tried = record {
 
 -- ---- each is needed: it alone fails, and the numbers differ
 
-no-hint : (m : Lent) (a : CollectOutcome) → NamesNoneTaken m [] a
-unfolding pagesNamed
-no-hint m a g k t = absurd (Memᴰ.not-nil k)
+no_hint : (m : Lent) (a : CollectOutcome) → NamesNoneTaken m [] a
+unfolding pages_named
+no_hint m a g k t = absurd (Memᴰ.not-nil k)
 
 -- the others hold
-crowd-else : (crowd1.refusal ≡ 0) × NamesNoneTaken crowd [] crowd1 × (crowd2.kept ≡ 0)
-crowd-else = (tried.accepted.2, no-hint crowd crowd1, tried.crowd-second.4)
+crowd_else : (crowd1.refusal ≡ 0) × NamesNoneTaken crowd [] crowd1 × (crowd2.kept ≡ 0)
+crowd_else = (tried.accepted.2, no_hint crowd crowd1, tried.crowd_second.4)
 
-past-else : (past1.refusal ≡ 0) × (past1.kept ≡ 0) × (past2.kept ≡ 0)
-past-else = (tried.accepted.4, tried.past_first.4, tried.past-second.4)
+past_else : (past1.refusal ≡ 0) × (past1.kept ≡ 0) × (past2.kept ≡ 0)
+past_else = (tried.accepted.4, tried.past_first.4, tried.past_second.4)
 
-full-else : (full1.refusal ≡ 0) × (full1.kept ≡ 0) × NamesNoneTaken full [] full1
-full-else = (tried.accepted.6, tried.full-first.4, no-hint full full1)
+full_else : (full1.refusal ≡ 0) × (full1.kept ≡ 0) × NamesNoneTaken full [] full1
+full_else = (tried.accepted.6, tried.full_first.4, no_hint full full1)
 
-crowd-fails : InARow crowd (8 ∷ 16 ∷ 12 ∷ []) [] crowd1 crowd2 → ⊥
-crowd-fails R = omega (arith, tried.crowd-first.4, R.kept)
+crowd_fails : InARow crowd (8 ∷ 16 ∷ 12 ∷ []) [] crowd1 crowd2 → ⊥
+crowd_fails R = omega (arith, tried.crowd_first.4, R.kept)
 
-past-fails : InARow past (8 ∷ []) (24 ∷ []) past1 past2 → ⊥
-unfolding pagesNamed pagesOfHint pageNamed pageNamedBefore past
-past-fails R = R.names 2 (Memᴰ.tail (Memᴰ.head refl)) (record {
+past_fails : InARow past (8 ∷ []) (24 ∷ []) past1 past2 → ⊥
+unfolding pages_named pages_of_hint page_named page_named_before past
+past_fails R = R.names 2 (Memᴰ.tail (Memᴰ.head refl)) (record {
   free = refl;
-  inUse = record { low = omega arith; high = omega (arith, tried.past-record.1); label = tried.past-record.0 };
+  in_use = record { low = omega arith; high = omega (arith, tried.past_record.1); label = tried.past_record.0 };
 })
 
-full-fails : InARow full (8 ∷ 16 ∷ 13 ∷ 21 ∷ []) [] full1 full2 → ⊥
-full-fails R = omega (arith, tried.full-second.4, R.keptAgain)
+full_fails : InARow full (8 ∷ 16 ∷ 13 ∷ 21 ∷ []) [] full1 full2 → ⊥
+full_fails R = omega (arith, tried.full_second.4, R.kept_again)
 
-crowd-differs : SameNumbers crowd1 crowd2 → ⊥
-crowd-differs S = omega (arith, S.taken, tried.crowd-first.1, tried.crowd-second.1)
+crowd_differs : SameNumbers crowd1 crowd2 → ⊥
+crowd_differs S = omega (arith, S.taken, tried.crowd_first.1, tried.crowd_second.1)
 
-past-differs : SameNumbers past1 past2 → ⊥
-past-differs S = omega (arith, S.taken, tried.past_first.1, tried.past-second.1)
+past_differs : SameNumbers past1 past2 → ⊥
+past_differs S = omega (arith, S.taken, tried.past_first.1, tried.past_second.1)
 
-full-differs : SameNumbers full1 full2 → ⊥
-full-differs S = omega (arith, S.taken, tried.full-first.1, tried.full-second.1)
+full_differs : SameNumbers full1 full2 → ⊥
+full_differs S = omega (arith, S.taken, tried.full_first.1, tried.full_second.1)

@@ -1,11 +1,11 @@
 -- Examples of Ranges, Header and Pages. Each line watches the clause that its comment names.
 use Rattle.std.specs.Prelude.{◌≡◌, refl, true, false, [], ◌∷◌, map, ◌+◌, ◌*◌, leb}
 use Rattle.rules.specs.Ranges.{at, from, block, each, has, count, sum, first}
-use Rattle.rules.specs.Header.{headerOf, size_of, refsOf, isHeader}
-use Rattle.rules.specs.Pages.{isPageSize, pageAtStart, isShape, pageNamed, pageNamedBefore, pagesNamed}
-use Rattle.rules.specs.Pages.{lowestFree, pagesUsed, pagesNeeded, otherLabel}
-use Rattle.rules.specs.Pages.{pageNamedToC, pageNamedBeforeToC, pagesNeededToC}
-use Rattle.rules.specs.Unfolded.{theRules}
+use Rattle.rules.specs.Header.{header_of, size_of, refs_of, is_header}
+use Rattle.rules.specs.Pages.{is_page_size, page_at_start, is_shape, page_named, page_named_before, pages_named}
+use Rattle.rules.specs.Pages.{lowest_free, pages_used, pages_needed, other_label}
+use Rattle.rules.specs.Pages.{page_named_to_c, page_named_before_to_c, pages_needed_to_c}
+use Rattle.rules.specs.Unfolded.{the_rules}
 
 record RangeExamples : Type 0 where
   -- past a list's end stands 0
@@ -24,49 +24,49 @@ record RangeExamples : Type 0 where
 record HeaderExamples : Type 0 where
   -- n is what stands above the low 16 bits, p the half of these
   words : map size_of (65535 ∷ 65536 ∷ 131071 ∷ 131072 ∷ []) ≡ 0 ∷ 1 ∷ 1 ∷ 2 ∷ []
-  references : map refsOf (65537 ∷ 65538 ∷ 65539 ∷ 131071 ∷ []) ≡ 0 ∷ 1 ∷ 1 ∷ 32767 ∷ []
+  references : map refs_of (65537 ∷ 65538 ∷ 65539 ∷ 131071 ∷ []) ≡ 0 ∷ 1 ∷ 1 ∷ 32767 ∷ []
   -- d 1 and p 1 with just enough room, and with a word too little
-  fits : (isHeader (headerOf 1 1) 2 ≡ true) × (isHeader (headerOf 1 1) 1 ≡ false)
+  fits : (is_header (header_of 1 1) 2 ≡ true) × (is_header (header_of 1 1) 1 ≡ false)
   -- "odd"; "n is at least 1": the smallest, and n 0; "p is at most n - 1": p = n
-  even : isHeader (2 * 65536) 8 ≡ false
-  smallest : (isHeader (headerOf 0 0) 1 ≡ true) × (isHeader 1 8 ≡ false)
-  p-of-n : isHeader (2 * 65536 + 2 * 2 + 1) 8 ≡ false
+  even : is_header (2 * 65536) 8 ≡ false
+  smallest : (is_header (header_of 0 0) 1 ≡ true) × (is_header 1 8 ≡ false)
+  p_of_n : is_header (2 * 65536 + 2 * 2 + 1) 8 ≡ false
   -- p at its largest: n is not touched by it
-  p-largest : (isHeader (32767 * 65536 + 65535) 32767 ≡ false) × (isHeader (32768 * 65536 + 65535) 32768 ≡ true)
+  p_largest : (is_header (32767 * 65536 + 65535) 32767 ≡ false) × (is_header (32768 * 65536 + 65535) 32768 ≡ true)
 
 record PageExamples : Type 0 where
   -- "a power of two from 8 to 1,024": these eight, and no other
-  sizes : each isPageSize (8 ∷ 16 ∷ 32 ∷ 64 ∷ 128 ∷ 256 ∷ 512 ∷ 1024 ∷ []) ≡ true
-  no_other : count isPageSize (block 0 2050) ≡ 8
+  sizes : each is_page_size (8 ∷ 16 ∷ 32 ∷ 64 ∷ 128 ∷ 256 ∷ 512 ∷ 1024 ∷ []) ≡ true
+  no_other : count is_page_size (block 0 2050) ≡ 8
   -- only 0 means the default
-  default : map pageAtStart (0 ∷ 1 ∷ 8 ∷ 128 ∷ []) ≡ 64 ∷ 1 ∷ 8 ∷ 128 ∷ []
+  default : map page_at_start (0 ∷ 1 ∷ 8 ∷ 128 ∷ []) ≡ 64 ∷ 1 ∷ 8 ∷ 128 ∷ []
   -- "T is 3 to 4,096", and P is looked at too
-  pages : map (isShape 8) (2 ∷ 3 ∷ 4096 ∷ 4097 ∷ []) ≡ false ∷ true ∷ true ∷ false ∷ []
-  sizes-too : (isShape 4 3 ≡ false) × (isShape 12 3 ≡ false) × (isShape 1024 3 ≡ true) × (isShape 2048 3 ≡ false)
+  pages : map (is_shape 8) (2 ∷ 3 ∷ 4096 ∷ 4097 ∷ []) ≡ false ∷ true ∷ true ∷ false ∷ []
+  sizes_too : (is_shape 4 3 ≡ false) × (is_shape 12 3 ≡ false) × (is_shape 1024 3 ≡ true) × (is_shape 2048 3 ≡ false)
   -- the pages from lo to hi - 1 are named by their words, first to last
-  named : map (pageNamed 8 2 4) (15 ∷ 16 ∷ 31 ∷ 32 ∷ []) ≡ 0 ∷ 2 ∷ 3 ∷ 0 ∷ []
+  named : map (page_named 8 2 4) (15 ∷ 16 ∷ 31 ∷ 32 ∷ []) ≡ 0 ∷ 2 ∷ 3 ∷ 0 ∷ []
   -- by the word behind them too; and lo may be 0
-  named-before : map (pageNamedBefore 8 2 4) (0 ∷ 16 ∷ 17 ∷ 32 ∷ 33 ∷ []) ≡ 0 ∷ 0 ∷ 2 ∷ 3 ∷ 0 ∷ []
-  named-from-0 : pageNamedBefore 8 0 4 9 ≡ 1
+  named_before : map (page_named_before 8 2 4) (0 ∷ 16 ∷ 17 ∷ 32 ∷ 33 ∷ []) ≡ 0 ∷ 0 ∷ 2 ∷ 3 ∷ 0 ∷ []
+  named_from_0 : page_named_before 8 0 4 9 ≡ 1
   -- each word in order, its own page first
-  hints : pagesNamed 8 2 4 (15 ∷ 16 ∷ 24 ∷ 32 ∷ 33 ∷ []) ≡ 0 ∷ 0 ∷ 2 ∷ 0 ∷ 3 ∷ 2 ∷ 0 ∷ 3 ∷ 0 ∷ 0 ∷ []
+  hints : pages_named 8 2 4 (15 ∷ 16 ∷ 24 ∷ 32 ∷ 33 ∷ []) ≡ 0 ∷ 0 ∷ 2 ∷ 0 ∷ 3 ∷ 2 ∷ 0 ∷ 3 ∷ 0 ∷ 0 ∷ []
   -- the lowest of two; none before page 3
-  lowest : (lowestFree (0 ∷ 1 ∷ 0 ∷ 0 ∷ []) 1 4 ≡ 2) × (lowestFree (0 ∷ 1 ∷ 2 ∷ 0 ∷ []) 1 3 ≡ 3)
+  lowest : (lowest_free (0 ∷ 1 ∷ 0 ∷ 0 ∷ []) 1 4 ≡ 2) × (lowest_free (0 ∷ 1 ∷ 2 ∷ 0 ∷ []) 1 3 ≡ 3)
   -- any label but 0 counts, on pages lo to hi - 1 alone
-  used : (pagesUsed (9 ∷ 1 ∷ 0 ∷ 2 ∷ 1 ∷ []) 1 4 ≡ 2) × (pagesUsed (0 ∷ 1 ∷ 0 ∷ 2 ∷ []) 1 4 ≡ 2)
+  used : (pages_used (9 ∷ 1 ∷ 0 ∷ 2 ∷ 1 ∷ []) 1 4 ≡ 2) × (pages_used (0 ∷ 1 ∷ 0 ∷ 2 ∷ []) 1 4 ≡ 2)
   -- one word needs a page; P + 1 need three, and 2(P + 1) five
-  needed : map (pagesNeeded 8) (0 ∷ 1 ∷ 8 ∷ 9 ∷ 17 ∷ 18 ∷ []) ≡ 0 ∷ 1 ∷ 1 ∷ 3 ∷ 3 ∷ 5 ∷ []
-  other : map otherLabel (1 ∷ 2 ∷ []) ≡ 2 ∷ 1 ∷ []
+  needed : map (pages_needed 8) (0 ∷ 1 ∷ 8 ∷ 9 ∷ 17 ∷ 18 ∷ []) ≡ 0 ∷ 1 ∷ 1 ∷ 3 ∷ 3 ∷ 5 ∷ []
+  other : map other_label (1 ∷ 2 ∷ []) ≡ 2 ∷ 1 ∷ []
   -- for C: T 3, and then T 2, P 4 and P 0, which are bad
-  to-C : map (λ w. pageNamedToC w 8 3) (7 ∷ 8 ∷ 23 ∷ 24 ∷ []) ≡ 0 ∷ 1 ∷ 2 ∷ 0 ∷ []
-  to-C-bad : (pageNamedToC 9 8 2 ≡ 0) × (pageNamedToC 9 4 6 ≡ 0) × (pageNamedToC 9 0 6 ≡ 0)
-  before-to-C : map (λ w. pageNamedBeforeToC w 8 3) (8 ∷ 9 ∷ 17 ∷ 24 ∷ 25 ∷ []) ≡ 0 ∷ 1 ∷ 2 ∷ 2 ∷ 0 ∷ []
-  before-to-C-bad : (pageNamedBeforeToC 9 8 2 ≡ 0) × (pageNamedBeforeToC 9 4 6 ≡ 0) × (pageNamedBeforeToC 9 0 6 ≡ 0)
-  needed-to-C : (pagesNeededToC 17 16 ≡ 3) × (pagesNeededToC 17 4 ≡ 4294967295)
+  to_c : map (λ w. page_named_to_c w 8 3) (7 ∷ 8 ∷ 23 ∷ 24 ∷ []) ≡ 0 ∷ 1 ∷ 2 ∷ 0 ∷ []
+  to_c_bad : (page_named_to_c 9 8 2 ≡ 0) × (page_named_to_c 9 4 6 ≡ 0) × (page_named_to_c 9 0 6 ≡ 0)
+  before_to_c : map (λ w. page_named_before_to_c w 8 3) (8 ∷ 9 ∷ 17 ∷ 24 ∷ 25 ∷ []) ≡ 0 ∷ 1 ∷ 2 ∷ 2 ∷ 0 ∷ []
+  before_to_c_bad : (page_named_before_to_c 9 8 2 ≡ 0) × (page_named_before_to_c 9 4 6 ≡ 0) × (page_named_before_to_c 9 0 6 ≡ 0)
+  needed_to_c : (pages_needed_to_c 17 16 ≡ 3) × (pages_needed_to_c 17 4 ≡ 4294967295)
 
-range-examples : RangeExamples
-unfolding theRules
-range-examples = record {
+range_examples : RangeExamples
+unfolding the_rules
+range_examples = record {
   places = refl;
   numbers = refl;
   blocks = (refl, refl);
@@ -77,37 +77,37 @@ range-examples = record {
   first_one = (refl, refl);
 }
 
-header-examples : HeaderExamples
-unfolding theRules
-header-examples = record {
+header_examples : HeaderExamples
+unfolding the_rules
+header_examples = record {
   words = refl;
   references = refl;
   fits = (refl, refl);
   even = refl;
   smallest = (refl, refl);
-  p-of-n = refl;
-  p-largest = (refl, refl);
+  p_of_n = refl;
+  p_largest = (refl, refl);
 }
 
-page-examples : PageExamples
-unfolding theRules
-page-examples = record {
+page_examples : PageExamples
+unfolding the_rules
+page_examples = record {
   sizes = refl;
   no_other = refl;
   default = refl;
   pages = refl;
-  sizes-too = (refl, refl, refl, refl);
+  sizes_too = (refl, refl, refl, refl);
   named = refl;
-  named-before = refl;
-  named-from-0 = refl;
+  named_before = refl;
+  named_from_0 = refl;
   hints = refl;
   lowest = (refl, refl);
   used = (refl, refl);
   needed = refl;
   other = refl;
-  to-C = refl;
-  to-C-bad = (refl, refl, refl);
-  before-to-C = refl;
-  before-to-C-bad = (refl, refl, refl);
-  needed-to-C = (refl, refl);
+  to_c = refl;
+  to_c_bad = (refl, refl, refl);
+  before_to_c = refl;
+  before_to_c_bad = (refl, refl, refl);
+  needed_to_c = (refl, refl);
 }

@@ -2,41 +2,41 @@
 use Rattle.std.specs.Prelude.{◌≡◌, ◌≢◌, ◌⊎◌, Bool, true, cond, ◌&&◌, ℕ, ◌+◌, ◌*◌, ◌/◌, ◌≤◌, ◌<◌, ◌^◌, length, eqb, leb}
 use mathlib.Core.List.{List, Memᴰ}
 use Rattle.rules.specs.Ranges.{at, block, each}
-use Rattle.rules.specs.Header.{refsOf}
-use Rattle.rules.specs.Pages.{isFree}
-use Rattle.rules.specs.Lent.{Lent, isValid}
-use Rattle.rules.specs.Walk.{starts, stop, isReference}
+use Rattle.rules.specs.Header.{refs_of}
+use Rattle.rules.specs.Pages.{is_free}
+use Rattle.rules.specs.Lent.{Lent, is_valid}
+use Rattle.rules.specs.Walk.{starts, stop, is_reference}
 
 -- ---- the test
 
 -- only zeros from address a up to e
-unfoldable pub isBlank : List ℕ → ℕ → ℕ → Bool
-isBlank h a e = each (λ w. eqb (at h w) 0) (block a e)
+unfoldable pub is_blank : List ℕ → ℕ → ℕ → Bool
+is_blank h a e = each (λ w. eqb (at h w) 0) (block a e)
 
 -- the references of the object at x, which stand right after its header, are good
-unfoldable pub refsGood : Lent → ℕ → Bool
-refsGood m x = each (λ w. isReference m (at m.heap w)) (block (x + 1) (x + 1 + refsOf (at m.heap x)))
+unfoldable pub refs_good : Lent → ℕ → Bool
+refs_good m x = each (λ w. is_reference m (at m.heap w)) (block (x + 1) (x + 1 + refs_of (at m.heap x)))
 
 -- "on the open page it stops exactly at fill"
-unfoldable pub isFillSound : Lent → ℕ → Bool
-isFillSound m g = cond (eqb g m.rec.opened) (eqb (stop m g) (g * m.rec.page + m.rec.fill)) true
+unfoldable pub is_fill_sound : Lent → ℕ → Bool
+is_fill_sound m g = cond (eqb g m.rec.opened) (eqb (stop m g) (g * m.rec.page + m.rec.fill)) true
 
 -- a page with a label that is not 0: the label is current, "the walk meets at least one object", every reference is good, the
 -- walk stops where it should, "and only zeros stand from its stop on"
-unfoldable pub isUsedSound : Lent → ℕ → Bool
-isUsedSound m g =
-    eqb (at m.labels g) m.rec.label && (leb 1 (length (starts m g)) && (each (refsGood m) (starts m g)
-    && (isFillSound m g && isBlank m.heap (stop m g) (g * m.rec.page + m.rec.page))))
+unfoldable pub is_used_sound : Lent → ℕ → Bool
+is_used_sound m g =
+    eqb (at m.labels g) m.rec.label && (leb 1 (length (starts m g)) && (each (refs_good m) (starts m g)
+    && (is_fill_sound m g && is_blank m.heap (stop m g) (g * m.rec.page + m.rec.page))))
 
 -- "every free page hold[s] only zeros; every label is 0 or current"
-unfoldable pub isPageSound : Lent → ℕ → Bool
-isPageSound m g =
-    cond (isFree m.labels g) (isBlank m.heap (g * m.rec.page) (g * m.rec.page + m.rec.page)) (isUsedSound m g)
+unfoldable pub is_page_sound : Lent → ℕ → Bool
+is_page_sound m g =
+    cond (is_free m.labels g) (is_blank m.heap (g * m.rec.page) (g * m.rec.page + m.rec.page)) (is_used_sound m g)
 
 -- "the record is valid; page 0 is free; page 0 [holds] only zeros"; and each page from 1 to T - 1
-unfoldable pub isSound : Lent → Bool
-isSound m =
-    isValid m && (isFree m.labels 0 && (isBlank m.heap 0 m.rec.page && each (isPageSound m) (block 1 m.rec.pages)))
+unfoldable pub is_sound : Lent → Bool
+is_sound m =
+    is_valid m && (is_free m.labels 0 && (is_blank m.heap 0 m.rec.page && each (is_page_sound m) (block 1 m.rec.pages)))
 
 -- ---- the proposition
 
@@ -48,12 +48,12 @@ pub record InUse (m : Lent) (g : ℕ) : Type 0 where
 
 -- "An object start is an address that the walk meets as a header, on a page 1 to T-1 with the current label."
 pub record IsObject (m : Lent) (a : ℕ) : Type 0 where
-  pub inUse : InUse m (a / m.rec.page)
+  pub in_use : InUse m (a / m.rec.page)
   pub met : Memᴰ a (starts m (a / m.rec.page))
 
 -- how many references the object at x has, and its payload word i
 abbrev pub refs : Lent → ℕ → ℕ
-refs m x = refsOf (at m.heap x)
+refs m x = refs_of (at m.heap x)
 
 abbrev pub payload : Lent → ℕ → ℕ → ℕ
 payload m x i = at m.heap (x + 1 + i)

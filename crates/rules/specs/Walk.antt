@@ -3,7 +3,7 @@ use Rattle.std.specs.Prelude.{Bool, cond, ◌&&◌, ◌||◌, List, [], ◌∷�
 use Rattle.rules.specs.declared.Found.{Found}
 use Rattle.rules.specs.declared.Found.TheVariants.{Start, Inside, Nothing}
 use Rattle.rules.specs.Ranges.{at, has, sum}
-use Rattle.rules.specs.Header.{size_of, isHeader}
+use Rattle.rules.specs.Header.{size_of, is_header}
 use Rattle.rules.specs.Lent.{Lent}
 
 -- The addresses that the walk from address a on meets as headers, at most f of them, where there are `room` words before
@@ -14,7 +14,7 @@ walk zero h a room = []
 walk (suc f) h a room =
     let n = size_of (at h a) in
     let rest = a ∷ walk f h (a + n) (room - n) in
-    cond (isHeader (at h a) room) rest []
+    cond (is_header (at h a) room) rest []
 
 -- the address behind the last object of a walk from a that met these
 unfoldable pub behind : List ℕ → ℕ → List ℕ → ℕ
@@ -30,20 +30,20 @@ unfoldable pub stop : Lent → ℕ → ℕ
 stop m g = behind m.heap (g * m.rec.page) (starts m g)
 
 -- Q-3: "the words in objects" on page g, their headers with them
-unfoldable pub wordsOn : Lent → ℕ → ℕ
-wordsOn m g = sum (λ x. size_of (at m.heap x)) (starts m g)
+unfoldable pub words_on : Lent → ℕ → ℕ
+words_on m g = sum (λ x. size_of (at m.heap x)) (starts m g)
 
 -- "on a page 1 to T-1 with the current label"
-unfoldable pub isInUse : Lent → ℕ → Bool
-isInUse m g = leb 1 g && (ltb g m.rec.pages && eqb (at m.labels g) m.rec.label)
+unfoldable pub is_in_use : Lent → ℕ → Bool
+is_in_use m g = leb 1 g && (ltb g m.rec.pages && eqb (at m.labels g) m.rec.label)
 
 -- "An object start is an address that the walk meets as a header, on a page 1 to T-1 with the current label."
-unfoldable pub isStart : Lent → ℕ → Bool
-isStart m a = isInUse m (a / m.rec.page) && has a (starts m (a / m.rec.page))
+unfoldable pub is_start : Lent → ℕ → Bool
+is_start m a = is_in_use m (a / m.rec.page) && has a (starts m (a / m.rec.page))
 
 -- "neither 0 nor an object start" is what a reference may not be
-unfoldable pub isReference : Lent → ℕ → Bool
-isReference m v = eqb v 0 || isStart m v
+unfoldable pub is_reference : Lent → ℕ → Bool
+is_reference m v = eqb v 0 || is_start m v
 
 -- where a lands among these objects
 unfoldable pub landing : List ℕ → ℕ → List ℕ → Found
@@ -55,4 +55,4 @@ landing h a (x ∷ xs) =
 
 -- what is found at an address (Q-2): "an object start", with its header, "inside the object that starts at s, or nothing"
 unfoldable pub found : Lent → ℕ → Found
-found m a = cond (isInUse m (a / m.rec.page)) (landing m.heap a (starts m (a / m.rec.page))) Nothing
+found m a = cond (is_in_use m (a / m.rec.page)) (landing m.heap a (starts m (a / m.rec.page))) Nothing

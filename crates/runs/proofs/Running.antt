@@ -17,7 +17,7 @@ use Rattle.entries.specs.Entries.{entry_at, next_at, decode}
 use Rattle.steps.specs.Session.{Session, Stepped, step}
 use Rattle.lines.specs.Lines.{line, none, noted, ending}
 use Rattle.runs.specs.Run.{rest, answered, run}
-use Rattle.lines.specs.Put.{put, Put, put-more}
+use Rattle.lines.specs.Put.{put, Put, put_more}
 
 -- ---- what stands at a place
 
@@ -31,28 +31,28 @@ module _ (bytes : List ℕ) (a : ℕ) where
   whole_by false true e t h = let z : ◌≡◌ {A = ℕ} 0 1 = cc in absurd (omega arith)
   whole_by false false e t h = let z : ◌≡◌ {A = ℕ} 0 1 = cc in absurd (omega arith)
 
-  partial-by : (b d : Bool) → leb (a + 8) (length bytes) ≡ b → ltb a (length bytes) ≡ d → cond b (Whole (entry_at bytes a)) (cond d Partial Done) ≡ Partial
+  partial_by : (b d : Bool) → leb (a + 8) (length bytes) ≡ b → ltb a (length bytes) ≡ d → cond b (Whole (entry_at bytes a)) (cond d Partial Done) ≡ Partial
       → (a < length bytes) × (length bytes < a + 8)
-  partial-by true d t u h = let z : ◌≡◌ {A = ℕ} 0 1 = cc in absurd (omega arith)
-  partial-by false true t u h = (ltb-true a (length bytes) u, leb-false (a + 8) (length bytes) t)
-  partial-by false false t u h = let z : ◌≡◌ {A = ℕ} 0 1 = cc in absurd (omega arith)
+  partial_by true d t u h = let z : ◌≡◌ {A = ℕ} 0 1 = cc in absurd (omega arith)
+  partial_by false true t u h = (ltb-true a (length bytes) u, leb-false (a + 8) (length bytes) t)
+  partial_by false false t u h = let z : ◌≡◌ {A = ℕ} 0 1 = cc in absurd (omega arith)
 
-  done-by : (b d : Bool) → ltb a (length bytes) ≡ d → cond b (Whole (entry_at bytes a)) (cond d Partial Done) ≡ Done → length bytes ≤ a
-  done-by true d u h = let z : ◌≡◌ {A = ℕ} 0 1 = cc in absurd (omega arith)
-  done-by false true u h = let z : ◌≡◌ {A = ℕ} 0 1 = cc in absurd (omega arith)
-  done-by false false u h = ltb-false a (length bytes) u
+  done_by : (b d : Bool) → ltb a (length bytes) ≡ d → cond b (Whole (entry_at bytes a)) (cond d Partial Done) ≡ Done → length bytes ≤ a
+  done_by true d u h = let z : ◌≡◌ {A = ℕ} 0 1 = cc in absurd (omega arith)
+  done_by false true u h = let z : ◌≡◌ {A = ℕ} 0 1 = cc in absurd (omega arith)
+  done_by false false u h = ltb-false a (length bytes) u
 
   pub is_whole : (e : Entry) → next_at bytes a ≡ Whole e → AtWhole bytes a e
   unfolding next_at
   is_whole e h = whole_by (leb (a + 8) (length bytes)) (ltb a (length bytes)) e refl h
 
-  pub is-partial : next_at bytes a ≡ Partial → (a < length bytes) × (length bytes < a + 8)
+  pub is_partial : next_at bytes a ≡ Partial → (a < length bytes) × (length bytes < a + 8)
   unfolding next_at
-  is-partial h = partial-by (leb (a + 8) (length bytes)) (ltb a (length bytes)) refl refl h
+  is_partial h = partial_by (leb (a + 8) (length bytes)) (ltb a (length bytes)) refl refl h
 
-  pub is-done : next_at bytes a ≡ Done → length bytes ≤ a
+  pub is_done : next_at bytes a ≡ Done → length bytes ≤ a
   unfolding next_at
-  is-done h = done-by (leb (a + 8) (length bytes)) (ltb a (length bytes)) refl h
+  is_done h = done_by (leb (a + 8) (length bytes)) (ltb a (length bytes)) refl h
 
 -- ---- the run from a place on
 
@@ -67,11 +67,11 @@ turn bytes a s t e h =
     let n : (length bytes - a) / 8 ≡ suc ((length bytes - (a + 8)) / 8) = omega (arith, w.inside) in
     rw (n, w.entry)
 
-pub at-partial : (bytes : List ℕ) (a : ℕ) (s : Session) (t : Tally) → next_at bytes a ≡ Partial
+pub at_partial : (bytes : List ℕ) (a : ℕ) (s : Session) (t : Tally) → next_at bytes a ≡ Partial
     → onward bytes a s t ≡ line t.records 9 0 ++ ending (noted t 9)
 unfolding run rest
-at-partial bytes a s t h =
-    let w = is-partial bytes a h in
+at_partial bytes a s t h =
+    let w = is_partial bytes a h in
     let n : (length bytes - a) / 8 ≡ 0 = omega (arith, w.0, w.1) in
     let m : length bytes - a ≡ suc (length bytes - a - 1) = omega (arith, w.0) in
     rw (n, m)
@@ -79,24 +79,24 @@ at-partial bytes a s t h =
 pub at_done : (bytes : List ℕ) (a : ℕ) (s : Session) (t : Tally) → next_at bytes a ≡ Done → onward bytes a s t ≡ ending t
 unfolding run rest
 at_done bytes a s t h =
-    let w = is-done bytes a h in
+    let w = is_done bytes a h in
     let n : (length bytes - a) / 8 ≡ 0 = omega (arith, w) in
     let m : length bytes - a ≡ 0 = omega (arith, w) in
     rw (n, m)
 
 -- ---- the tally
 
-noted-by : (b : Bool) (t : Tally) → t.accepted + t.refused ≡ t.records
+noted_by : (b : Bool) (t : Tally) → t.accepted + t.refused ≡ t.records
     → let n : Tally = cond b (record { records = t.records + 1; accepted = t.accepted + 1; refused = t.refused }) (record { records = t.records + 1; accepted = t.accepted; refused = t.refused + 1 }) in
     (n.accepted + n.refused ≡ n.records) × (n.records ≡ t.records + 1)
-noted-by true t h = (omega arith, refl)
-noted-by false t h = (omega arith, refl)
+noted_by true t h = (omega arith, refl)
+noted_by false t h = (omega arith, refl)
 
 -- one record more, and the numbers still add up
-pub noted-adds : (t : Tally) (k : ℕ) → t.accepted + t.refused ≡ t.records
+pub noted_adds : (t : Tally) (k : ℕ) → t.accepted + t.refused ≡ t.records
     → ((noted t k).accepted + (noted t k).refused ≡ (noted t k).records) × ((noted t k).records ≡ t.records + 1)
 unfolding noted
-noted-adds t k h = noted-by (eqb k 0) t h
+noted_adds t k h = noted_by (eqb k 0) t h
 
 -- ---- the loop
 
@@ -132,7 +132,7 @@ module _ {input : List ℕ} {s : Session} {t : Tally} {a place : ℕ} {out out�
   turns e h {out'} {r} o is p room kept {t'} n {b} at =
       let l : List ℕ = line t.records o.refusal o.value in
       let w = is_whole input a e h in
-      let k = noted-adds t o.refusal now.adds in
+      let k = noted_adds t o.refusal now.adds in
       let records : t'.records ≡ t.records + 1 = ap (λ (x : Tally). x.records) n ∙ k.1 in
       let u : List ℕ = onward input (a + 8) o.session (noted t o.refusal) in
       let here : onward input b o.session t' ≡ u = rw (at, n) in
@@ -143,7 +143,7 @@ module _ {input : List ℕ} {s : Session} {t : Tally} {a place : ℕ} {out out�
         inside = omega (arith, w.inside);
         near = omega (arith, records, p.near, now.near);
         size = kept ∙ now.size;
-        text = rw here (put-more p (omega (arith, p.near, p.place)) u ∙ ap (λ (x : List ℕ). put out place x) (sym go) ∙ now.text);
+        text = rw here (put_more p (omega (arith, p.near, p.place)) u ∙ ap (λ (x : List ℕ). put out place x) (sym go) ∙ now.text);
         last = omega (arith, p.place, ap length here, ap length go, length-append l u, now.last);
       }
 
@@ -167,10 +167,10 @@ first_part l n e = by (leb (length l) 64000) refl
     by false h = let k = leb-false (length l) 64000 h in let m : n ≡ 64000 = omega arith in ap (λ (j : ℕ). take j l) m
 
 -- a text put at the start
-pub at-start : {d d₁ t : List ℕ} {r m : ℕ} → Put d d₁ 0 r t m → d₁ ≡ t ++ drop r d
-at-start {d} {d₁} {t} p = p.text ∙ ap (λ (k : ℕ). t ++ drop k d) (sym p.place)
+pub at_start : {d d₁ t : List ℕ} {r m : ℕ} → Put d d₁ 0 r t m → d₁ ≡ t ++ drop r d
+at_start {d} {d₁} {t} p = p.text ∙ ap (λ (k : ℕ). t ++ drop k d) (sym p.place)
 
 pub counts : {d d₁ t : List ℕ} {r m : ℕ} → Put d d₁ 0 r t m → IsPrefixLen r d₁
 counts {d} {d₁} {t} {r} p =
-    let h : r ≤ length d₁ = omega (arith, p.place, ap length (at-start p), length-append t (drop r d)) in
+    let h : r ≤ length d₁ = omega (arith, p.place, ap length (at_start p), length-append t (drop r d)) in
     (h, sym (length-take-le r d₁ h))

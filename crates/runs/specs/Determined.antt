@@ -9,7 +9,7 @@ pub record Runs (input before : List ℕ) (n : ℕ) (after : List ℕ) : Type 0 
   pub answer : n ≡ length (transcript input)
   pub bytes : after ≡ transcript input ++ drop n before
 
-pub runs-once : {input before : List ℕ} {m n : ℕ} {x y : List ℕ} → Runs input before m x → Runs input before n y → (m ≡ n) × (x ≡ y)
-runs-once {input} {before} p q =
+pub runs_once : {input before : List ℕ} {m n : ℕ} {x y : List ℕ} → Runs input before m x → Runs input before n y → (m ≡ n) × (x ≡ y)
+runs_once {input} {before} p q =
     let e = p.answer ∙ sym q.answer in
     (e, p.bytes ∙ ap (λ (k : ℕ). transcript input ++ drop k before) e ∙ sym q.bytes)

@@ -2,11 +2,11 @@
 -- has it), and the ends of the input. All of that is closed, and its proof is refl.
 use Rattle.std.specs.Prelude.{◌≡◌, refl, List, [], ◌∷◌, ◌++◌, ℕ, ◌/◌, length, take, replicate}
 use Rattle.std.proofs.Common.{sym, ap, ◌∙◌, arith, take_all, take_at}
-use Rattle.rules.specs.Unfolded.{theRules}
+use Rattle.rules.specs.Unfolded.{the_rules}
 use Rattle.entries.specs.Entries.{decode}
 use Rattle.steps.specs.Session.{before, refused, accepted, passed, blank, perform, step}
 use Rattle.lines.specs.Lines.{digits, number, line, none, noted, ending}
-use Rattle.runs.specs.Run.{rest, run, bytesRead, transcript}
+use Rattle.runs.specs.Run.{rest, run, bytes_read, transcript}
 
 -- (op, x, y, i, v) of document 01, v as four bytes
 abbrev input : List ℕ
@@ -94,10 +94,10 @@ record Examples : Type 0 where
   numbered : transcript mixed
       ≡ line 0 0 0 ++ line 1 1 0 ++ line 2 0 8 ++ line 3 9 0 ++ line 4 9 0 ++ ending (record { records = 5; accepted = 2; refused = 3 })
   -- "a lent buffer of at most 8,000 records": 64,000 bytes
-  at_most : length (bytesRead (replicate 64001 7)) ≡ 64000
+  at_most : length (bytes_read (replicate 64001 7)) ≡ 64000
 
 examples : Examples
-unfolding theRules decode before refused accepted passed blank perform step digits number line noted ending rest run transcript
+unfolding the_rules decode before refused accepted passed blank perform step digits number line noted ending rest run transcript
 examples = record {
   document01 = refl;
   look_up = refl;
@@ -108,8 +108,8 @@ examples = record {
 }
 
 -- "later bytes are not read", of any input: what stands behind the 64,000th makes no difference
-later-bytes : (first later : List ℕ) → length first ≡ 64000 → transcript (first ++ later) ≡ transcript first
+later_bytes : (first later : List ℕ) → length first ≡ 64000 → transcript (first ++ later) ≡ transcript first
 unfolding transcript
-later-bytes first later e =
+later_bytes first later e =
     let all : take 64000 first ≡ first = take_all 64000 first (omega arith) in
     ap (λ (bytes : List ℕ). run (length bytes / 8) bytes 0 before none) (take_at first later 64000 e ∙ sym all)

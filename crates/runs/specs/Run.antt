@@ -20,8 +20,8 @@ run zero bytes a s t = rest (length bytes - a) t
 run (suc n) bytes a s t = answered (run n bytes (a + 8)) t (step s (decode (entry_at bytes a)))
 
 -- "a lent buffer of at most 8,000 records; later bytes are not read"
-abbrev pub bytesRead : List ℕ → List ℕ
-bytesRead input = take 64000 input
+abbrev pub bytes_read : List ℕ → List ℕ
+bytes_read input = take 64000 input
 
 unfoldable pub transcript : List ℕ → List ℕ
-transcript input = run (length (bytesRead input) / 8) (bytesRead input) 0 before none
+transcript input = run (length (bytes_read input) / 8) (bytes_read input) 0 before none

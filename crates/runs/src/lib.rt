@@ -4,7 +4,7 @@ ghost use Rattle.io.specs.Counts.{IsPrefixLen};
 ghost use Rattle.lines.specs.Lines.{none};
 ghost use Rattle.runs.specs.Run.{run, transcript};
 ghost use Rattle.lines.specs.Put.{Put};
-ghost use Rattle.steps.specs.Code.{session, notBegun, Buffers};
+ghost use Rattle.steps.specs.Code.{session, not_begun, Buffers};
 
 use entries::{Next, reader};
 use lines::tally::Tally;
@@ -24,7 +24,7 @@ fn run_on(
 ) -> usize
     requires input_len_bound { (length input.now ≤ 64000) × (264037 ≤ length out.old) }
     requires buffers { Buffers heap.old labels.old links.old roots.old hints.old }
-    ensures { Put out.old out.new 0 result (run (length input.now / 8) input.now 0 (session heap.old labels.old links.old roots.old hints.old notBegun) none) 264037 }
+    ensures { Put out.old out.new 0 result (run (length input.now / 8) input.now 0 (session heap.old labels.old links.old roots.old hints.old not_begun) none) 264037 }
 {
     let mut s = Progress::new();
     let mut tally = Tally::new();

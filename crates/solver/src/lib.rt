@@ -1,10 +1,10 @@
 // The calls for the native solver and anyone else who writes C: include/fouterpin.h. They have no `requires`, since nobody
 // checks a C caller, and each is thin over the proved call of the same name. A slice crosses as a pointer and a count.
 ghost use Rattle.std.specs.Prelude.{◌≡◌};
-ghost use Rattle.rules.specs.Pages.{pageNamedToC, pageNamedBeforeToC, pagesNeededToC};
+ghost use Rattle.rules.specs.Pages.{page_named_to_c, page_named_before_to_c, pages_needed_to_c};
 ghost use Rattle.rules.specs.Lent.{lent};
-ghost use Rattle.rules.specs.Calls.{outcome, start, allocate, lookUp, load, store};
-ghost use Rattle.rules.specs.Collect.{collectOutcome, collect};
+ghost use Rattle.rules.specs.Calls.{outcome, start, allocate, look_up, load, store};
+ghost use Rattle.rules.specs.Collect.{collect_outcome, collect};
 
 use rules::{Answer, Collected, Record};
 
@@ -47,7 +47,7 @@ pub extern "C" fn fouterpin_look_up(
     r: Record,
     address: u32,
 ) -> Answer
-    ensures { outcome result heap.now labels.now links.now ≡ lookUp (lent heap.now labels.now links.now r) address }
+    ensures { outcome result heap.now labels.now links.now ≡ look_up (lent heap.now labels.now links.now r) address }
 {
     objects::look_up(heap, labels, links, r, address)
 }
@@ -93,7 +93,7 @@ pub extern "C" fn fouterpin_collect(
     roots: &mut [u32],
     hints: &[u32],
 ) -> Collected
-    ensures { collectOutcome result heap.new labels.new links.new roots.new ≡ collect (lent heap.old labels.old links.old r) roots.old hints.now }
+    ensures { collect_outcome result heap.new labels.new links.new roots.new ≡ collect (lent heap.old labels.old links.old r) roots.old hints.now }
 {
     collector::collect(heap, labels, links, r, roots, hints)
 }
@@ -101,7 +101,7 @@ pub extern "C" fn fouterpin_collect(
 // Which page a word names by itself, 0 for none. Bad P or T gives 0.
 #[unsafe(no_mangle)]
 pub extern "C" fn fouterpin_page_named(word: u32, page: u32, pages: u32) -> u32
-    ensures { result ≡ pageNamedToC word page pages }
+    ensures { result ≡ page_named_to_c word page pages }
 {
     numbers::pages::page_named_checked(word, page, pages)
 }
@@ -109,7 +109,7 @@ pub extern "C" fn fouterpin_page_named(word: u32, page: u32, pages: u32) -> u32
 // Which page the word before names, 0 for none; there is none before word 0. A hint word names this one too, after its own.
 #[unsafe(no_mangle)]
 pub extern "C" fn fouterpin_page_named_before(word: u32, page: u32, pages: u32) -> u32
-    ensures { result ≡ pageNamedBeforeToC word page pages }
+    ensures { result ≡ page_named_before_to_c word page pages }
 {
     numbers::pages::page_named_before_checked(word, page, pages)
 }
@@ -117,7 +117,7 @@ pub extern "C" fn fouterpin_page_named_before(word: u32, page: u32, pages: u32) 
 // How many pages a collection may need, where there are `words` words in objects on pages in use that no hint names.
 #[unsafe(no_mangle)]
 pub extern "C" fn fouterpin_pages_needed(words: u32, page: u32) -> u32
-    ensures { result ≡ pagesNeededToC words page }
+    ensures { result ≡ pages_needed_to_c words page }
 {
     numbers::pages::pages_needed(words, page)
 }

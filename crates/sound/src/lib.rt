@@ -3,8 +3,8 @@
 ghost use Rattle.std.specs.Prelude.{◌≡◌, List, cond, true, eqb, ℕ, ◌+◌, ◌≤◌};
 ghost use Rattle.rules.specs.Ranges.{at, block, each};
 ghost use Rattle.rules.specs.Lent.{lent};
-ghost use Rattle.rules.specs.Walk.{isReference};
-ghost use Rattle.rules.specs.Sound.{isBlank, isUsedSound, isPageSound, isSound};
+ghost use Rattle.rules.specs.Walk.{is_reference};
+ghost use Rattle.rules.specs.Sound.{is_blank, is_used_sound, is_page_sound, is_sound};
 
 use layout::{record, tables, walk};
 use numbers::header;
@@ -23,7 +23,7 @@ fn word_at(heap: &[u32], address: usize) -> u32
 
 // Only zeros from address a up to e. Words past the heap count as zeros.
 fn is_blank(heap: &[u32], a: usize, e: usize) -> bool
-    ensures { result ≡ isBlank heap.now a e }
+    ensures { result ≡ is_blank heap.now a e }
 {
     let end = tables::smaller(e, heap.len());
     let mut i = a;
@@ -38,7 +38,7 @@ fn is_blank(heap: &[u32], a: usize, e: usize) -> bool
 
 // Only references from address a up to e. A zero, as past the heap, is one.
 fn are_references(heap: &[u32], labels: &[u16], r: Record, a: usize, e: usize) -> bool
-    ensures { (links : List ℕ) → result ≡ each (λ w. isReference (lent heap.now labels.now links r) (at heap.now w)) (block a e) }
+    ensures { (links : List ℕ) → result ≡ each (λ w. is_reference (lent heap.now labels.now links r) (at heap.now w)) (block a e) }
 {
     let end = tables::smaller(e, heap.len());
     let mut i = a;
@@ -65,7 +65,7 @@ fn is_fill_sound(r: Record, g: u32, base: usize, stop: usize) -> bool
 // A page with a label that is not 0: it is the current one, the walk meets an object, every reference of an object is good,
 // the walk stops where it should, and only zeros stand from there on.
 fn is_used_sound(heap: &[u32], labels: &[u16], r: Record, g: u32) -> bool
-    ensures { (links : List ℕ) → result ≡ isUsedSound (lent heap.now labels.now links r) g }
+    ensures { (links : List ℕ) → result ≡ is_used_sound (lent heap.now labels.now links r) g }
 {
     if record::label_at(labels, g as usize) != r.label {
         return false;
@@ -96,7 +96,7 @@ fn is_used_sound(heap: &[u32], labels: &[u16], r: Record, g: u32) -> bool
 
 // A page free and blank, or in use.
 fn is_page_sound(heap: &[u32], labels: &[u16], r: Record, g: u32) -> bool
-    ensures { (links : List ℕ) → result ≡ isPageSound (lent heap.now labels.now links r) g }
+    ensures { (links : List ℕ) → result ≡ is_page_sound (lent heap.now labels.now links r) g }
 {
     if record::label_at(labels, g as usize) != 0 {
         return is_used_sound(heap, labels, r, g);
@@ -108,7 +108,7 @@ fn is_page_sound(heap: &[u32], labels: &[u16], r: Record, g: u32) -> bool
 
 // Every page that can be used.
 fn are_pages_sound(heap: &[u32], labels: &[u16], r: Record) -> bool
-    ensures { (links : List ℕ) → result ≡ each (isPageSound (lent heap.now labels.now links r)) (block 1 r.pages) }
+    ensures { (links : List ℕ) → result ≡ each (is_page_sound (lent heap.now labels.now links r)) (block 1 r.pages) }
 {
     let mut g: u32 = 1;
     while g < r.pages {
@@ -122,7 +122,7 @@ fn are_pages_sound(heap: &[u32], labels: &[u16], r: Record) -> bool
 
 // The whole: the record is valid, page 0 is free and blank, and every other page is sound.
 pub fn is_sound(heap: &[u32], labels: &[u16], links: &[u16], r: Record) -> bool
-    ensures { result ≡ isSound (lent heap.now labels.now links.now r) }
+    ensures { result ≡ is_sound (lent heap.now labels.now links.now r) }
 {
     if !record::is_valid(heap, labels, links, r) {
         return false;

@@ -31,8 +31,8 @@ stepped x heap labels links roots hints =
     record { refusal = x.refusal; value = x.value; session = session heap labels links roots hints x.progress }
 
 -- before any start: of the buffers nothing is lent
-abbrev pub notBegun : Progress
-notBegun = record { begun = false; words = 0; pages = 0; rec = record { page = 0; pages = 0; label = 0; opened = 0; fill = 0 } }
+abbrev pub not_begun : Progress
+not_begun = record { begun = false; words = 0; pages = 0; rec = record { page = 0; pages = 0; label = 0; opened = 0; fill = 0 } }
 
 -- the buffers: 8,192 words make at most 1,024 pages of the least size
 pub record Buffers (h l k r w : List ℕ) : Type 0 where
@@ -47,13 +47,13 @@ pub record Within (s : Progress) : Type 0 where
   pub words : s.words ≤ 8192
   pub pages : s.pages ≤ 1024
 
-abbrev pub isStart : Step → Bool
-isStart (Start P T) = true
-isStart (Allocate x d p) = false
-isStart (Store x i operand) = false
-isStart (Load x i) = false
-isStart (Hint x y v) = false
-isStart (Clear x) = false
-isStart Collect = false
-isStart (LookUp x v) = false
-isStart Bad = false
+abbrev pub is_start : Step → Bool
+is_start (Start P T) = true
+is_start (Allocate x d p) = false
+is_start (Store x i operand) = false
+is_start (Load x i) = false
+is_start (Hint x y v) = false
+is_start (Clear x) = false
+is_start Collect = false
+is_start (LookUp x v) = false
+is_start Bad = false

@@ -8,14 +8,14 @@ use Rattle.promises.specs.Completes.{completes}
 use Rattle.entries.specs.declared.Step.{Step}
 use Rattle.entries.specs.declared.Step.TheVariants.{Collect}
 use Rattle.steps.specs.Session.{Session, before, refused, passed, perform, step}
-use Rattle.steps.specs.Ready.{IsReady, played, session-ready}
+use Rattle.steps.specs.Ready.{IsReady, played, session_ready}
 
-pub perform-collects : (s : Session) → IsReady s → s.begun ≡ true → (perform s Collect).refusal ≡ 0
+pub perform_collects : (s : Session) → IsReady s → s.begun ≡ true → (perform s Collect).refusal ≡ 0
 unfolding perform passed
-perform-collects s h b = let k = h b in completes s.lent s.roots s.hints k.sound k.roots
+perform_collects s h b = let k = h b in completes s.lent s.roots s.hints k.sound k.roots
 
-pub always-collects : (ts : List Step) → (played before ts).begun ≡ true → (step (played before ts) Collect).refusal ≡ 0
+pub always_collects : (ts : List Step) → (played before ts).begun ≡ true → (step (played before ts) Collect).refusal ≡ 0
 unfolding step each
-always-collects ts b =
+always_collects ts b =
     let s = played before ts in
-    ap (λ (ok : Bool). (cond ok (perform s Collect) (refused 9 s)).refusal) (and_is b refl) ∙ perform-collects s (session-ready ts) b
+    ap (λ (ok : Bool). (cond ok (perform s Collect) (refused 9 s)).refusal) (and_is b refl) ∙ perform_collects s (session_ready ts) b

@@ -2,15 +2,15 @@
 use Rattle.std.specs.Prelude.{ℕ, ◌+◌, ◌*◌, ◌%◌, ◌^◌, Bool, true, false, cond, List, [], replicate, ◌==◌, nat_le, slice_set}
 use Rattle.rules.specs.declared.Record.{Record}
 use Rattle.rules.specs.Ranges.{at}
-use Rattle.rules.specs.Pages.{pageAtStart}
+use Rattle.rules.specs.Pages.{page_at_start}
 use Rattle.rules.specs.Lent.{Lent, lent}
-use Rattle.rules.specs.Calls.{Outcome, start, allocate, lookUp, load, store}
+use Rattle.rules.specs.Calls.{Outcome, start, allocate, look_up, load, store}
 use Rattle.rules.specs.Collect.{CollectOutcome, collect}
 use Rattle.entries.specs.declared.Operand.{Operand}
 use Rattle.entries.specs.declared.Operand.TheVariants.{Root, Number}
 use Rattle.entries.specs.declared.Step.{Step}
 use Rattle.entries.specs.declared.Step.TheVariants.{Start, Allocate, Store, Load, Hint, Clear, Collect, LookUp, Bad}
-use Rattle.entries.specs.Entries.{isAllowed}
+use Rattle.entries.specs.Entries.{is_allowed}
 
 -- Whether a start was accepted; what is lent, a heap of exactly P-as-T words and as many labels and links as pages, with the
 -- record; the root cells; the hint words.
@@ -82,26 +82,26 @@ abbrev pub placed : Session → ℕ → Outcome → Stepped
 placed s x o = called s o (slice_set s.roots x o.value)
 
 -- "either a root or a number"
-abbrev pub operandOf : List ℕ → Operand → ℕ
-operandOf roots (Root y) = at roots y
-operandOf roots (Number v) = v
+abbrev pub operand_of : List ℕ → Operand → ℕ
+operand_of roots (Root y) = at roots y
+operand_of roots (Number v) = v
 
 -- "root y plus v, modulo 2^32"
-abbrev pub rootPlus : List ℕ → ℕ → ℕ → ℕ
-rootPlus roots y v = (at roots y + v) % 2 ^ 32
+abbrev pub root_plus : List ℕ → ℕ → ℕ → ℕ
+root_plus roots y v = (at roots y + v) % 2 ^ 32
 
 -- the table of operations: what each means, and the value printed
 unfoldable pub perform : Session → Step → Stepped
-perform s (Start P T) = begin s (start (blank (pageAtStart P) T s.lent.rec) P T) (T * pageAtStart P)
+perform s (Start P T) = begin s (start (blank (page_at_start P) T s.lent.rec) P T) (T * page_at_start P)
 perform s (Allocate x d p) = placed s x (allocate s.lent d p)
-perform s (Store x i operand) = called s (store s.lent (at s.roots x) i (operandOf s.roots operand)) s.roots
+perform s (Store x i operand) = called s (store s.lent (at s.roots x) i (operand_of s.roots operand)) s.roots
 perform s (Load x i) = called s (load s.lent (at s.roots x) i) s.roots
-perform s (Hint x y v) = accepted (rootPlus s.roots y v) (hinting s (slice_set s.hints x (rootPlus s.roots y v)))
+perform s (Hint x y v) = accepted (root_plus s.roots y v) (hinting s (slice_set s.hints x (root_plus s.roots y v)))
 perform s (Clear x) = accepted 0 (holding s s.lent (slice_set s.roots x 0))
 perform s Collect = collected s (collect s.lent s.roots s.hints)
-perform s (LookUp x v) = called s (lookUp s.lent (rootPlus s.roots x v)) s.roots
+perform s (LookUp x v) = called s (look_up s.lent (root_plus s.roots x v)) s.roots
 perform s Bad = refused 9 s
 
 -- "Refusal 9 comes first, but after 1 for a start."
 unfoldable pub step : Session → Step → Stepped
-step s t = cond (isAllowed s.begun t) (perform s t) (refused 9 s)
+step s t = cond (is_allowed s.begun t) (perform s t) (refused 9 s)

@@ -2,8 +2,8 @@
 // goes in by value and comes back. A call gets the part of the buffers that the last accepted start asked for.
 ghost use Rattle.std.specs.Prelude.{◌≡◌, ℕ, true, false, List};
 ghost use Rattle.entries.specs.declared.Step.TheVariants.{Start, Allocate, Store, Load, Hint, Collect, LookUp};
-ghost use Rattle.steps.specs.Session.{operandOf, rootPlus, perform, step};
-ghost use Rattle.steps.specs.Code.{playing, replied, session, stepped, notBegun, isStart, Buffers, Within};
+ghost use Rattle.steps.specs.Session.{operand_of, root_plus, perform, step};
+ghost use Rattle.steps.specs.Code.{playing, replied, session, stepped, not_begun, is_start, Buffers, Within};
 
 use crate::cells;
 use entries::{Operand, Step};
@@ -23,7 +23,7 @@ pub struct Progress {
 impl Progress {
     // Before any start: nothing is lent.
     pub fn new() -> Self
-        ensures { result ≡ notBegun }
+        ensures { result ≡ not_begun }
     {
         Progress {
             begun: false,
@@ -71,7 +71,7 @@ fn allocate(
 
 // The value of a root cell, or the number.
 fn operand_of(roots: &[u32], operand: Operand) -> u32
-    ensures { result ≡ operandOf roots.now operand }
+    ensures { result ≡ operand_of roots.now operand }
 {
     match operand {
         Operand::Root(y) => cells::get(roots, y),
@@ -120,7 +120,7 @@ fn load(
 
 // A derived address, before, inside or behind the object at root y.
 fn root_plus(roots: &[u32], y: u32, v: u32) -> u32
-    ensures { result ≡ rootPlus roots.now y v }
+    ensures { result ≡ root_plus roots.now y v }
 {
     std::num::wrapping_add_u32(cells::get(roots, y), v)
 }
@@ -194,7 +194,7 @@ fn perform(
     r: Record,
     asked: Step,
 ) -> Answer
-    requires { isStart asked ≡ false }
+    requires { is_start asked ≡ false }
     ensures { replied result heap.new labels.new links.new roots.new hints.new ≡ perform (playing heap.old labels.old links.old roots.old hints.old r) asked }
 {
     match asked {

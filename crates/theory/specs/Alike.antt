@@ -5,12 +5,12 @@ use Rattle.std.specs.Prelude.{◌≡◌, refl, ◌⊎◌, Bool, true, false, con
 use Rattle.std.proofs.Common.{sym, ap, ◌∙◌, subst, inl, inr, le_trans, arith, length-append}
 use Rattle.std.proofs.Math.Nat.{mul-add-mod_self_right}
 use Rattle.rules.specs.Ranges.{at}
-use Rattle.rules.specs.Header.{size_of, refsOf}
-use Rattle.rules.specs.Collection.{Pages, State, takePage, withRoom, top, put, keepPage}
+use Rattle.rules.specs.Header.{size_of, refs_of}
+use Rattle.rules.specs.Collection.{Pages, State, take_page, with_room, top, put, keep_page}
 use Rattle.rules.specs.Demands.{Becomes}
-use Rattle.theory.specs.World.{page_of, size_at, refsAt, World, Kept, Inv}
-use Rattle.theory.specs.Forward.{Due, due-not-kept, Avail, room_for, copied, keeping, How, idle, copies, keeps}
-use Rattle.theory.specs.Good.{Good, Grow, copy-last, copy-kept, copy-split, how-grow}
+use Rattle.theory.specs.World.{page_of, size_at, refs_at, World, Kept, Inv}
+use Rattle.theory.specs.Forward.{Due, due_not_kept, Avail, room_for, copied, keeping, How, idle, copies, keeps}
+use Rattle.theory.specs.Good.{Good, Grow, copy_last, copy_kept, copy_split, how_grow}
 
 -- `Pair x y` says that x of the one world is y of the other
 pub record Alike (W Z : World) (Pair : ℕ → ℕ → Type 0) : Type 0 where
@@ -20,15 +20,15 @@ pub record Alike (W Z : World) (Pair : ℕ → ℕ → Type 0) : Type 0 where
   pub once : (x y z : ℕ) → Pair x y → Pair x z → y ≡ z
   pub back : (x y z : ℕ) → Pair x z → Pair y z → x ≡ y
   pub headers : (x y : ℕ) → Pair x y → at Z.heap y ≡ at W.heap x
-  pub references : (x y i : ℕ) → Pair x y → 0 < i → i ≤ refsAt W x → Becomes Pair (at W.heap (x + i)) (at Z.heap (y + i))
+  pub references : (x y i : ℕ) → Pair x y → 0 < i → i ≤ refs_at W x → Becomes Pair (at W.heap (x + i)) (at Z.heap (y + i))
 
 -- so sizes and numbers of references agree
 module _ (W Z : World) (Pair : ℕ → ℕ → Type 0) (A : Alike W Z Pair) (x y : ℕ) (p : Pair x y) where
   pub size_same : size_at Z y ≡ size_at W x
   size_same = ap size_of (A.headers x y p)
 
-  pub refs-same : refsAt Z y ≡ refsAt W x
-  refs-same = ap refsOf (A.headers x y p)
+  pub refs_same : refs_at Z y ≡ refs_at W x
+  refs_same = ap refs_of (A.headers x y p)
 
 -- places a and b of the two runs: the same place, on pages that joined at the same turn
 pub record Twin (W Z : World) (s u : State) (a b : ℕ) : Type 0 where
@@ -60,9 +60,9 @@ pub record InStep (W Z : World) (Pair : ℕ → ℕ → Type 0) (s u : State) : 
 
 -- ---- all of it turns round
 
-becomes-turned : (Pair : ℕ → ℕ → Type 0) (v f : ℕ) → Becomes Pair v f → Becomes (Turned Pair) f v
-becomes-turned Pair v f (inl (a, b)) = inl (b, a)
-becomes-turned Pair v f (inr p) = inr p
+becomes_turned : (Pair : ℕ → ℕ → Type 0) (v f : ℕ) → Becomes Pair v f → Becomes (Turned Pair) f v
+becomes_turned Pair v f (inl (a, b)) = inl (b, a)
+becomes_turned Pair v f (inr p) = inr p
 
 pub turned : (W Z : World) (Pair : ℕ → ℕ → Type 0) → Alike W Z Pair → Alike Z W (Turned Pair)
 turned W Z Pair A = record {
@@ -72,11 +72,11 @@ turned W Z Pair A = record {
   once = λ y x z p q. A.back x z y p q;
   back = λ y z x p q. A.once x y z p q;
   headers = λ y x p. sym (A.headers x y p);
-  references = λ y x i p low high. becomes-turned Pair _ _ (A.references x y i p low (rw (refs-same W Z Pair A x y p) at high));
+  references = λ y x i p low high. becomes_turned Pair _ _ (A.references x y i p low (rw (refs_same W Z Pair A x y p) at high));
 }
 
-pub step-turned : (W Z : World) (Pair : ℕ → ℕ → Type 0) (s u : State) → InStep W Z Pair s u → InStep Z W (Turned Pair) u s
-step-turned W Z Pair s u S = record {
+pub step_turned : (W Z : World) (Pair : ℕ → ℕ → Type 0) (s u : State) → InStep W Z Pair s u → InStep Z W (Turned Pair) u s
+step_turned W Z Pair s u S = record {
   fill = sym S.fill;
   turns = sym S.turns;
   objects = sym S.objects;
@@ -88,8 +88,8 @@ step-turned W Z Pair s u S = record {
 -- ---- a partner stays one
 
 module _ (W Z : World) (Pair : ℕ → ℕ → Type 0) (s u t v : State) (A : Grow W s t) (B : Grow Z u v) (turns : length u.pages.queue ≡ length s.pages.queue) where
-  pub partner-stays : (x a : ℕ) → Partner W Z Pair s u x a → Partner W Z Pair t v x a
-  partner-stays x a P = record {
+  pub partner_stays : (x a : ℕ) → Partner W Z Pair s u x a → Partner W Z Pair t v x a
+  partner_stays x a P = record {
     y = P.y;
     b = P.b;
     pair = P.pair;
@@ -113,14 +113,14 @@ record Rooms (p q : Pages) : Type 0 where
   fill : q.fill ≡ p.fill
   turns : length q.queue ≡ length p.queue
 
-rooms : (W Z : World) → Z.plan.page ≡ W.plan.page → (p q : Pages) → Rooms p q → (n : ℕ) → Rooms (withRoom W.plan n p) (withRoom Z.plan n q)
-unfolding withRoom takePage
-rooms W Z page p q R n = subst (λ (b : Bool). Rooms (withRoom W.plan n p) (cond b q (takePage Z.plan q))) same (go (leb (p.fill + n) W.plan.page))
+rooms : (W Z : World) → Z.plan.page ≡ W.plan.page → (p q : Pages) → Rooms p q → (n : ℕ) → Rooms (with_room W.plan n p) (with_room Z.plan n q)
+unfolding with_room take_page
+rooms W Z page p q R n = subst (λ (b : Bool). Rooms (with_room W.plan n p) (cond b q (take_page Z.plan q))) same (go (leb (p.fill + n) W.plan.page))
   where
     same : leb (p.fill + n) W.plan.page ≡ leb (q.fill + n) Z.plan.page
     same = ap (λ (f : ℕ). leb (f + n) W.plan.page) (sym R.fill) ∙ ap (leb (q.fill + n)) (sym page)
 
-    go : (b : Bool) → Rooms (cond b p (takePage W.plan p)) (cond b q (takePage Z.plan q))
+    go : (b : Bool) → Rooms (cond b p (take_page W.plan p)) (cond b q (take_page Z.plan q))
     go true = R
     go false = record { fill = refl; turns = length-append q.queue _ ∙ ap (λ (n : ℕ). n + 1) R.turns ∙ sym (length-append p.queue _) }
 
@@ -156,20 +156,20 @@ module _ (W Z : World) (Pair : ℕ → ℕ → Type 0) (A : Alike W Z Pair) (s u
   -- twins, on the last pages of the queues
   twins : Twin W Z s' u' to to'
   twins =
-      let (l, len, here) = copy-last W s G x D a in
-      let (k, len', there) = copy-last Z u H y E e in
+      let (l, len, here) = copy_last W s G x D a in
+      let (k, len', there) = copy_last Z u H y E e in
       let same : l ≡ k = omega (arith, turns_same) in
       record { turn = l; within = omega arith; here = here; there = ap (at u'.pages.queue) same ∙ there; place = place_same }
 
-  copy-partner : (z b : ℕ) → Kept W s' z b → Partner W Z Pair s' u' z b
-  copy-partner z b k = go (copy-split W s G x D a z b k)
+  copy_partner : (z b : ℕ) → Kept W s' z b → Partner W Z Pair s' u' z b
+  copy_partner z b k = go (copy_split W s G x D a z b k)
     where
       here : Partner W Z Pair s' u' x to
-      here = record { y = y; b = to'; pair = p; kept = copy-kept Z u H y E e; twin = twins }
+      here = record { y = y; b = to'; pair = p; kept = copy_kept Z u H y E e; twin = twins }
 
       go : Kept W s z b ⊎ ((z ≡ x) × (b ≡ to)) → Partner W Z Pair s' u' z b
       go (inl k) =
-          partner-stays W Z Pair s u s' u' (how-grow W s x s' G (copies D a refl)) (how-grow Z u y u' H (copies E e refl)) S.turns z b (S.first z b k)
+          partner_stays W Z Pair s u s' u' (how_grow W s x s' G (copies D a refl)) (how_grow Z u y u' H (copies E e refl)) S.turns z b (S.first z b k)
       go (inr (ez, eb)) = rw (ez, eb) here
 
 copy_step : (W Z : World) (Pair : ℕ → ℕ → Type 0) (A : Alike W Z Pair) (s u : State) (G : Good W s) (H : Good Z u) (S : InStep W Z Pair s u)
@@ -180,36 +180,36 @@ copy_step W Z Pair A s u G H S x y p D a E e = record {
   turns = turns_same W Z Pair A s u G H S x y p D a E e;
   objects = ap (λ (n : ℕ). n + 1) S.objects;
   words = omega (arith, S.words, size_same W Z Pair A x y p);
-  first = copy-partner W Z Pair A s u G H S x y p D a E e;
-  second = copy-partner Z W (Turned Pair) (turned W Z Pair A) u s H G (step-turned W Z Pair s u S) y x p E e D a;
+  first = copy_partner W Z Pair A s u G H S x y p D a E e;
+  second = copy_partner Z W (Turned Pair) (turned W Z Pair A) u s H G (step_turned W Z Pair s u S) y x p E e D a;
 }
 
 -- ---- forwarding
 
 -- what the one run has retained, or is 0, is not due to be copied by the other
-not-due : (W Z : World) (Pair : ℕ → ℕ → Type 0) (A : Alike W Z Pair) (s u : State) → Inv Z u → InStep W Z Pair s u
+not_due : (W Z : World) (Pair : ℕ → ℕ → Type 0) (A : Alike W Z Pair) (s u : State) → Inv Z u → InStep W Z Pair s u
     → (v f w : ℕ) → Becomes Pair v f → Becomes (Kept W s) v w → Due Z u f → ⊥
-not-due W Z Pair A s u J S v f w (inl (a, b)) k D = Z.nonzero f D.object b
-not-due W Z Pair A s u J S v f w (inr p) (inl (a, b)) D = W.nonzero v (A.first v f p) a
-not-due W Z Pair A s u J S v f w (inr p) (inr k) D =
+not_due W Z Pair A s u J S v f w (inl (a, b)) k D = Z.nonzero f D.object b
+not_due W Z Pair A s u J S v f w (inr p) (inl (a, b)) D = W.nonzero v (A.first v f p) a
+not_due W Z Pair A s u J S v f w (inr p) (inr k) D =
     let P = S.first v w k in
-    due-not-kept Z u J f P.b D (subst (λ (y : ℕ). Kept Z u y P.b) (A.once v P.y f P.pair p) P.kept)
+    due_not_kept Z u J f P.b D (subst (λ (y : ℕ). Kept Z u y P.b) (A.once v P.y f P.pair p) P.kept)
 
-keeping-some : (W : World) (s : State) (v : ℕ) (t : State) → t ≡ keeping W s v → t.pages.kept ≡ 0 → ⊥
-unfolding keepPage
-keeping-some W s v t e z = let k : t.pages.kept ≡ s.pages.kept + 1 = ap (λ (r : State). r.pages.kept) e in omega arith
+keeping_some : (W : World) (s : State) (v : ℕ) (t : State) → t ≡ keeping W s v → t.pages.kept ≡ 0 → ⊥
+unfolding keep_page
+keeping_some W s v t e z = let k : t.pages.kept ≡ s.pages.kept + 1 = ap (λ (r : State). r.pages.kept) e in omega arith
 
 -- v forwarded by the one run, its partner f by the other
 module _ (W Z : World) (Pair : ℕ → ℕ → Type 0) (A : Alike W Z Pair) (s u : State) (G : Good W s) (H : Good Z u) (S : InStep W Z Pair s u)
     (v f : ℕ) (P : Becomes Pair v f) (t r : State) (none : t.pages.kept ≡ 0) (none' : r.pages.kept ≡ 0) where
-  pub how-step : How W s v t → How Z u f r → InStep W Z Pair t r
-  how-step (keeps D cant e) j = absurd (keeping-some W s v t e none)
-  how-step (idle a k e) (idle b l e') = rw (e, e') S
-  how-step (idle a k e) (copies D av e') = absurd (not-due W Z Pair A s u H.inv S v f a P k D)
-  how-step (idle a k e) (keeps D cant e') = absurd (keeping-some Z u f r e' none')
-  how-step (copies D av e) (keeps D' cant e') = absurd (keeping-some Z u f r e' none')
-  how-step (copies D av e) (idle b l e') = absurd (not-due Z W (Turned Pair) (turned W Z Pair A) u s G.inv (step-turned W Z Pair s u S) f v b (becomes-turned Pair v f P) l D)
-  how-step (copies D av e) (copies D' av' e') = rw (e, e') (both P)
+  pub how_step : How W s v t → How Z u f r → InStep W Z Pair t r
+  how_step (keeps D cant e) j = absurd (keeping_some W s v t e none)
+  how_step (idle a k e) (idle b l e') = rw (e, e') S
+  how_step (idle a k e) (copies D av e') = absurd (not_due W Z Pair A s u H.inv S v f a P k D)
+  how_step (idle a k e) (keeps D cant e') = absurd (keeping_some Z u f r e' none')
+  how_step (copies D av e) (keeps D' cant e') = absurd (keeping_some Z u f r e' none')
+  how_step (copies D av e) (idle b l e') = absurd (not_due Z W (Turned Pair) (turned W Z Pair A) u s G.inv (step_turned W Z Pair s u S) f v b (becomes_turned Pair v f P) l D)
+  how_step (copies D av e) (copies D' av' e') = rw (e, e') (both P)
     where
       both : Becomes Pair v f → InStep W Z Pair (copied W s v) (copied Z u f)
       both (inl (z, w)) = absurd (W.nonzero v D.object z)

@@ -3,16 +3,16 @@
 use Rattle.std.specs.Prelude.{◌≡◌, ℕ, zero, suc, ◌+◌, ◌*◌, ◌-◌, ◌≤◌, ◌<◌, length}
 use Rattle.std.proofs.Common.{sym, ap, ◌∙◌, subst, le_trans, arith}
 use Rattle.rules.specs.Ranges.{at}
-use Rattle.rules.specs.Collection.{State, sweepReferences, sweepPage}
-use Rattle.laws.specs.Pages.{split-page}
-use Rattle.theory.specs.World.{page_of, size_at, refsAt, World, Kept, kept-place}
-use Rattle.theory.specs.Places.{some_words, kept-obj, unkept-standing}
-use Rattle.theory.specs.Cursor.{Cursor, at_place, at-stop, behind-place}
+use Rattle.rules.specs.Collection.{State, sweep_references, sweep_page}
+use Rattle.laws.specs.Pages.{split_page}
+use Rattle.theory.specs.World.{page_of, size_at, refs_at, World, Kept, kept_place}
+use Rattle.theory.specs.Places.{some_words, kept_obj, unkept_standing}
+use Rattle.theory.specs.Cursor.{Cursor, at_place, at_stop, behind_place}
 use Rattle.theory.specs.Good.{Good}
-use Rattle.theory.specs.SweepPage.{queued-label, object-fits, object-step}
-use Rattle.theory.specs.NoneKept.{page-kept}
-use Rattle.theory.specs.Alike.{Alike, size_same, refs-same, Partner, Turned, InStep, turned, step-turned}
-use Rattle.theory.specs.AlikeReferences.{Steps, steps-none, steps-trans, references-steps}
+use Rattle.theory.specs.SweepPage.{queued_label, object_fits, object_step}
+use Rattle.theory.specs.NoneKept.{page_kept}
+use Rattle.theory.specs.Alike.{Alike, size_same, refs_same, Partner, Turned, InStep, turned, step_turned}
+use Rattle.theory.specs.AlikeReferences.{Steps, steps_none, steps_trans, references_steps}
 
 -- an object retained on the one is paired with one retained on the other, at the same place
 across : (W Z : World) (Pair : ℕ → ℕ → Type 0) → Alike W Z Pair → (s u : State) → Good W s → InStep W Z Pair s u
@@ -31,25 +31,25 @@ across W Z Pair A s u G S i g g' a b room lt eg eg' ea eb x K pg = (P.y, P.pair,
     page = sym P.twin.there ∙ ap (at u.pages.queue) turn ∙ eg'
 
     here : P.b ≡ b
-    here = omega (arith, split-page W.plan.page a, split-page Z.plan.page P.b, P.twin.place, A.page, ap (λ (k : ℕ). k * W.plan.page) pg, ap (λ (k : ℕ). k * Z.plan.page) page)
+    here = omega (arith, split_page W.plan.page a, split_page Z.plan.page P.b, P.twin.place, A.page, ap (λ (k : ℕ). k * W.plan.page) pg, ap (λ (k : ℕ). k * Z.plan.page) page)
 
 module _ (W Z : World) (Pair : ℕ → ℕ → Type 0) (A : Alike W Z Pair) (i g g' : ℕ) where
   abbrev PageSteps : ℕ → Type 0
   PageSteps f = (a b room : ℕ) (s u : State) → Good W s → Good Z u → InStep W Z Pair s u → i < length s.pages.queue → at s.pages.queue i ≡ g → at u.pages.queue i ≡ g'
       → a + room ≡ g * W.plan.page + W.plan.page → b + room ≡ g' * Z.plan.page + Z.plan.page → Cursor W s g a room → Cursor Z u g' b room
-      → (sweepPage W.plan f a room s).pages.kept ≡ 0 → (sweepPage Z.plan f b room u).pages.kept ≡ 0
-      → Steps W Z Pair s u (sweepPage W.plan f a room s) (sweepPage Z.plan f b room u)
+      → (sweep_page W.plan f a room s).pages.kept ≡ 0 → (sweep_page Z.plan f b room u).pages.kept ≡ 0
+      → Steps W Z Pair s u (sweep_page W.plan f a room s) (sweep_page Z.plan f b room u)
 
-  page-none : PageSteps zero
-  unfolding sweepPage
-  page-none a b room s u G H S lt eg eg' ea eb c d none none' = steps-none W Z Pair s u G H S
+  page_none : PageSteps zero
+  unfolding sweep_page
+  page_none a b room s u G H S lt eg eg' ea eb c d none none' = steps_none W Z Pair s u G H S
 
   module _ (f : ℕ) (ih : PageSteps f) (a b room : ℕ) (s u : State) (G : Good W s) (H : Good Z u) (S : InStep W Z Pair s u)
       (lt : i < length s.pages.queue) (eg : at s.pages.queue i ≡ g) (eg' : at u.pages.queue i ≡ g')
       (ea : a + room ≡ g * W.plan.page + W.plan.page) (eb : b + room ≡ g' * Z.plan.page + Z.plan.page)
-      (none : (sweepPage W.plan (suc f) a room s).pages.kept ≡ 0) (none' : (sweepPage Z.plan (suc f) b room u).pages.kept ≡ 0) where
+      (none : (sweep_page W.plan (suc f) a room s).pages.kept ≡ 0) (none' : (sweep_page Z.plan (suc f) b room u).pages.kept ≡ 0) where
     abbrev Goal : Type 0
-    Goal = Steps W Z Pair s u (sweepPage W.plan (suc f) a room s) (sweepPage Z.plan (suc f) b room u)
+    Goal = Steps W Z Pair s u (sweep_page W.plan (suc f) a room s) (sweep_page Z.plan (suc f) b room u)
 
     lt' : i < length u.pages.queue
     lt' = omega (arith, S.turns)
@@ -60,28 +60,28 @@ module _ (W Z : World) (Pair : ℕ → ℕ → Type 0) (A : Alike W Z Pair) (i g
       n = size_at W x
 
       fits : n ≤ room
-      fits = object-fits W g a room s G.inv ea x K pg
+      fits = object_fits W g a room s G.inv ea x K pg
 
       abbrev t : State
-      t = sweepReferences W.plan (refsAt W x) (suc a) s
+      t = sweep_references W.plan (refs_at W x) (suc a) s
 
       abbrev r : State
-      r = sweepReferences Z.plan (refsAt W x) (suc b) u
+      r = sweep_references Z.plan (refs_at W x) (suc b) u
 
       abbrev t' : State
-      t' = sweepPage W.plan f (a + n) (room - n) t
+      t' = sweep_page W.plan f (a + n) (room - n) t
 
       abbrev r' : State
-      r' = sweepPage Z.plan f (b + n) (room - n) r
+      r' = sweep_page Z.plan f (b + n) (room - n) r
 
-      is : sweepPage W.plan (suc f) a room s ≡ t'
-      is = object-step W g a room s G.inv ea x K pg f
+      is : sweep_page W.plan (suc f) a room s ≡ t'
+      is = object_step W g a room s G.inv ea x K pg f
 
-      is' : sweepPage Z.plan (suc f) b room u ≡ r'
+      is' : sweep_page Z.plan (suc f) b room u ≡ r'
       is' =
-          object-step Z g' b room u H.inv eb y L pg' f
-          ∙ ap (λ (k : ℕ). sweepPage Z.plan f (b + k) (room - k) (sweepReferences Z.plan (refsAt Z y) (suc b) u)) (size_same W Z Pair A x y p)
-          ∙ ap (λ (k : ℕ). sweepPage Z.plan f (b + n) (room - n) (sweepReferences Z.plan k (suc b) u)) (refs-same W Z Pair A x y p)
+          object_step Z g' b room u H.inv eb y L pg' f
+          ∙ ap (λ (k : ℕ). sweep_page Z.plan f (b + k) (room - k) (sweep_references Z.plan (refs_at Z y) (suc b) u)) (size_same W Z Pair A x y p)
+          ∙ ap (λ (k : ℕ). sweep_page Z.plan f (b + n) (room - n) (sweep_references Z.plan k (suc b) u)) (refs_same W Z Pair A x y p)
 
       end : t'.pages.kept ≡ 0
       end = ap (λ (q : State). q.pages.kept) (sym is) ∙ none
@@ -90,36 +90,36 @@ module _ (W Z : World) (Pair : ℕ → ℕ → Type 0) (A : Alike W Z Pair) (i g
       end' = ap (λ (q : State). q.pages.kept) (sym is') ∙ none'
 
       B : Steps W Z Pair s u t r
-      B = references-steps W Z Pair A (refsAt W x) 0 s u G H S x y a b p K L (omega arith) (suc a) (suc b) (omega arith) (omega arith)
-          (omega (arith, page-kept W.plan f (a + n) (room - n) t, end)) (omega (arith, page-kept Z.plan f (b + n) (room - n) r, end'))
+      B = references_steps W Z Pair A (refs_at W x) 0 s u G H S x y a b p K L (omega arith) (suc a) (suc b) (omega arith) (omega arith)
+          (omega (arith, page_kept W.plan f (a + n) (room - n) t, end)) (omega (arith, page_kept Z.plan f (b + n) (room - n) r, end'))
 
       -- and so behind it
       C : Steps W Z Pair t r t' r'
       C = ih (a + n) (b + n) (room - n) t r B.good B.good' B.step (le_trans lt B.grow.longer) (B.grow.prefix i lt ∙ eg) (B.grow'.prefix i lt' ∙ eg')
           (omega (arith, fits)) (omega (arith, fits))
-          (behind-place W t B.good.inv B.good.tiled g x a (room - n) (kept-place W t (B.grow.kept x a K)) pg (omega (arith, fits)))
+          (behind_place W t B.good.inv B.good.tiled g x a (room - n) (kept_place W t (B.grow.kept x a K)) pg (omega (arith, fits)))
           (subst (λ (k : ℕ). Cursor Z r g' (b + k) (room - n)) (size_same W Z Pair A x y p)
-          (behind-place Z r B.good'.inv B.good'.tiled g' y b (room - n) (kept-place Z r (B.grow'.kept y b L)) pg' (omega (arith, fits, size_same W Z Pair A x y p))))
+          (behind_place Z r B.good'.inv B.good'.tiled g' y b (room - n) (kept_place Z r (B.grow'.kept y b L)) pg' (omega (arith, fits, size_same W Z Pair A x y p))))
           end end'
 
-      on-objects : Goal
-      on-objects = rw (is, is') (steps-trans W Z Pair s u t r t' r' B C)
+      on_objects : Goal
+      on_objects = rw (is, is') (steps_trans W Z Pair s u t r t' r' B C)
 
-    page-cases : Cursor W s g a room → Cursor Z u g' b room → Goal
-    unfolding sweepPage
-    page-cases (at_place x P pg) d =
-        let K : Kept W s x a = unkept-standing W s G.inv (omega (arith, page-kept W.plan (suc f) a room s, none)) x a (queued-label W s G g (i, lt, eg) a pg) P in
+    page_cases : Cursor W s g a room → Cursor Z u g' b room → Goal
+    unfolding sweep_page
+    page_cases (at_place x P pg) d =
+        let K : Kept W s x a = unkept_standing W s G.inv (omega (arith, page_kept W.plan (suc f) a room s, none)) x a (queued_label W s G g (i, lt, eg) a pg) P in
         let (y, p, L, pg') = across W Z Pair A s u G S i g g' a b room lt eg eg' ea eb x K pg in
-        on-objects x y p K pg L pg'
-    page-cases (at-stop h n last bl tp) (at-stop h' n' last' bl' tp') = rw (h, n) (rw (h', n') (steps-none W Z Pair s u G H S))
-    page-cases (at-stop h n last bl tp) (at_place y P pg') =
-        let L : Kept Z u y b = unkept-standing Z u H.inv (omega (arith, page-kept Z.plan (suc f) b room u, none')) y b (queued-label Z u H g' (i, lt', eg') b pg') P in
-        let (x, p, K, pg) = across Z W (Turned Pair) (turned W Z Pair A) u s H (step-turned W Z Pair s u S) i g' g b a room lt' eg' eg eb ea y L pg' in
-        absurd (omega (arith, last x a (kept-place W s K) pg, some_words W x (kept-obj W s G.inv x a K)))
+        on_objects x y p K pg L pg'
+    page_cases (at_stop h n last bl tp) (at_stop h' n' last' bl' tp') = rw (h, n) (rw (h', n') (steps_none W Z Pair s u G H S))
+    page_cases (at_stop h n last bl tp) (at_place y P pg') =
+        let L : Kept Z u y b = unkept_standing Z u H.inv (omega (arith, page_kept Z.plan (suc f) b room u, none')) y b (queued_label Z u H g' (i, lt', eg') b pg') P in
+        let (x, p, K, pg) = across Z W (Turned Pair) (turned W Z Pair A) u s H (step_turned W Z Pair s u S) i g' g b a room lt' eg' eg eb ea y L pg' in
+        absurd (omega (arith, last x a (kept_place W s K) pg, some_words W x (kept_obj W s G.inv x a K)))
 
-  page-more : (f : ℕ) → PageSteps f → PageSteps (suc f)
-  page-more f ih a b room s u G H S lt eg eg' ea eb c d none none' = page-cases f ih a b room s u G H S lt eg eg' ea eb none none' c d
+  page_more : (f : ℕ) → PageSteps f → PageSteps (suc f)
+  page_more f ih a b room s u G H S lt eg eg' ea eb c d none none' = page_cases f ih a b room s u G H S lt eg eg' ea eb none none' c d
 
-  pub page-steps : (f : ℕ) → PageSteps f
-  page-steps zero = page-none
-  page-steps (suc f) = page-more f (page-steps f)
+  pub page_steps : (f : ℕ) → PageSteps f
+  page_steps zero = page_none
+  page_steps (suc f) = page_more f (page_steps f)

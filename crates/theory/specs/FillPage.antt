@@ -9,26 +9,26 @@ use Rattle.std.proofs.Math.Decide.{dec_lt}
 use Rattle.std.proofs.lemmas.List.Edits.{sets}
 use Rattle.std.proofs.Math.Seq.{length-sets}
 use Rattle.rules.specs.Ranges.{at}
-use Rattle.rules.specs.Header.{headerOf, size_of, isHeader}
-use Rattle.rules.specs.Collection.{Move, State, isLeft, sizeAtCopy, filler, Filled, fillPlace, fillPage}
-use Rattle.laws.specs.Headers.{Left, header_is, header-full, left_is, left-odd, left-full, left-no-header}
-use Rattle.laws.specs.Pages.{on-page, first-on-page, page-end}
+use Rattle.rules.specs.Header.{header_of, size_of, is_header}
+use Rattle.rules.specs.Collection.{Move, State, is_left, size_at_copy, filler, Filled, fill_place, fill_page}
+use Rattle.laws.specs.Headers.{Left, header_is, header_full, left_is, left_odd, left_full, left_no_header}
+use Rattle.laws.specs.Pages.{on_page, first_on_page, page_end}
 use Rattle.laws.specs.Safe.{SafeStep, SafeFill}
-use Rattle.laws.specs.Words.{sets-other, sets-in, in-range}
+use Rattle.laws.specs.Words.{sets_other, sets_in, in_range}
 use Rattle.theory.specs.Sums.{Distinct}
-use Rattle.theory.specs.World.{page_of, labelWas, size_at, World, Kept, Place, kept-place, KeptPage, Inv}
-use Rattle.theory.specs.Places.{SameOrApart, Standing, there, left, some_words, place-obj, kept-obj, place_end, place-apart, standing, kept_from, left_word, left-copy, left-size, left_step}
+use Rattle.theory.specs.World.{page_of, label_was, size_at, World, Kept, Place, kept_place, KeptPage, Inv}
+use Rattle.theory.specs.Places.{SameOrApart, Standing, there, left, some_words, place_obj, kept_obj, place_end, place_apart, standing, kept_from, left_word, left_copy, left_size, left_step}
 use Rattle.theory.specs.Tile.{Begins, Tiled}
-use Rattle.theory.specs.Cursor.{Cursor, at_place, at-stop, behind-place}
-use Rattle.theory.specs.Fillers.{filler-length, filler-head, filler-zeros, Clear, from_place, from_some}
+use Rattle.theory.specs.Cursor.{Cursor, at_place, at_stop, behind_place}
+use Rattle.theory.specs.Fillers.{filler_length, filler_head, filler_zeros, Clear, from_place, from_some}
 
 -- ---- filling a page that is kept
 
 -- what is still to fill, On, and the pages that copies went to are as the sweep left them
 pub record Unfilled (W : World) (t : State) (On : ℕ → Type 0) (h : List ℕ) : Type 0 where
-  pub heapLength : length h ≡ length t.heap
+  pub heap_length : length h ≡ length t.heap
   pub rest : (w : ℕ) → On w → at h w ≡ at t.heap w
-  pub copies : (w : ℕ) → labelWas W w ≡ 0 → at h w ≡ at t.heap w
+  pub copies : (w : ℕ) → label_was W w ≡ 0 → at h w ≡ at t.heap w
 
 abbrev pub OnFrom : World → ℕ → ℕ → ℕ → Type 0
 OnFrom W g a w = (page_of W w ≡ g) × (a ≤ w)
@@ -36,10 +36,10 @@ OnFrom W g a w = (page_of W w ≡ g) × (a ≤ w)
 -- from s the filling of page g left s', with fillers from a on, at the places `more`
 pub record FilledFrom (W : World) (t : State) (g a : ℕ) (s s' : Filled) (Safe : Type 0) : Type 0 where
   pub safe : Safe
-  pub heapLength : length s'.heap ≡ length s.heap
+  pub heap_length : length s'.heap ≡ length s.heap
   pub else : (w : ℕ) → (page_of W w ≢ g) ⊎ (w < a) → at s'.heap w ≡ at s.heap w
   pub same : (w : ℕ) → page_of W w ≡ g → a ≤ w → Clear W t w → at s'.heap w ≡ at t.heap w
-  pub head : (m : Move) → Memᴰ m t.moves → page_of W m.from ≡ g → a ≤ m.from → at s'.heap m.from ≡ headerOf (size_at W m.from - 1) 0
+  pub head : (m : Move) → Memᴰ m t.moves → page_of W m.from ≡ g → a ≤ m.from → at s'.heap m.from ≡ header_of (size_at W m.from - 1) 0
   pub zeros : (m : Move) → Memᴰ m t.moves → page_of W m.from ≡ g → a ≤ m.from → (i : ℕ) → 0 < i → i < size_at W m.from → at s'.heap (m.from + i) ≡ 0
   pub more : List ℕ
   pub places : s'.places ≡ s.places ++ more
@@ -47,9 +47,9 @@ pub record FilledFrom (W : World) (t : State) (g a : ℕ) (s s' : Filled) (Safe 
   pub all : (m : Move) → Memᴰ m t.moves → page_of W m.from ≡ g → a ≤ m.from → Memᴰ m.from more
   pub once : Distinct more
 
--- what fillPage leaves, and that it is safe; and of the whole page
+-- what fill_page leaves, and that it is safe; and of the whole page
 abbrev FilledBy : World → State → ℕ → ℕ → ℕ → ℕ → Filled → Type 0
-FilledBy W t g f a room s = FilledFrom W t g a s (fillPage f a room s) (SafeFill f a room s.heap)
+FilledBy W t g f a room s = FilledFrom W t g a s (fill_page f a room s) (SafeFill f a room s.heap)
 
 abbrev pub FilledWhole : World → State → ℕ → Filled → Type 0
 FilledWhole W t g s = FilledBy W t g W.plan.page (g * W.plan.page) W.plan.page s
@@ -63,7 +63,7 @@ module _ (W : World) (t : State) (I : Inv W t) (T : Tiled W t) (g : ℕ) (K : Ke
   fill_end : (a : ℕ) (s : Filled) (Safe : Type 0) → Safe → Unfilled W t (OnFrom W g a) s.heap → ((x y : ℕ) → Place W t x y → page_of W y ≡ g → y + size_at W x ≤ a) → FilledFrom W t g a s s Safe
   fill_end a s Safe safe U none = record {
     safe = safe;
-    heapLength = refl;
+    heap_length = refl;
     else = λ w d. refl;
     same = λ w e l c. U.rest w (e, l);
     head = λ m mem e l. absurd (past m mem e l);
@@ -82,15 +82,15 @@ module _ (W : World) (t : State) (I : Inv W t) (T : Tiled W t) (g : ℕ) (K : Ke
   module _ (f a room : ℕ) (s : Filled) (U : Unfilled W t (OnFrom W g a) s.heap) (lo : g * W.plan.page ≤ a) (e : a + room ≡ g * W.plan.page + W.plan.page) (le : room ≤ suc f)
       (x : ℕ) (k : Kept W t x a) (pg : page_of W a ≡ g) where
     ob : W.Obj x
-    ob = kept-obj W t I x a k
+    ob = kept_obj W t I x a k
 
     hd : at s.heap a ≡ at W.heap x
     hd = U.rest a (pg, le_refl a) ∙ I.header x a k
 
     fits : size_at W x ≤ room
-    fits = omega (arith, place_end W t I g x a (kept-place W t k) pg)
+    fits = omega (arith, place_end W t I g x a (kept_place W t k) pg)
 
-    is : isHeader (at W.heap x) room ≡ true
+    is : is_header (at W.heap x) room ≡ true
     is = header_is (at W.heap x) room (record { odd = W.odd x ob; shape = W.shape x ob; fits = fits })
 
     -- no object was copied from within it
@@ -104,7 +104,7 @@ module _ (W : World) (t : State) (I : Inv W t) (T : Tiled W t) (g : ℕ) (K : Ke
     over : (s' : Filled) (Safe Safe' : Type 0) → (Safe → Safe') → FilledFrom W t g (a + size_at W x) s s' Safe → FilledFrom W t g a s s' Safe'
     over s' Safe Safe' safe r = record {
       safe = safe r.safe;
-      heapLength = r.heapLength;
+      heap_length = r.heap_length;
       else = λ w d. before w d;
       same = λ w q l c. within w q l c (dec_lt w (a + size_at W x));
       head = λ m mem q l. r.head m mem q (beyond m mem l);
@@ -124,14 +124,14 @@ module _ (W : World) (t : State) (I : Inv W t) (T : Tiled W t) (g : ℕ) (K : Ke
         within w q l c (yes lt) = r.else w (inr lt) ∙ U.rest w (q, l)
         within w q l c (no n) = r.same w q (omega arith) c
 
-    fill-there : FillOk f → FilledBy W t g (suc f) a room s
-    unfolding fillPage SafeFill
-    fill-there ih =
-        rw (hd, is, left-odd (at W.heap x) room (W.odd x ob))
+    fill_there : FillOk f → FilledBy W t g (suc f) a room s
+    unfolding fill_page SafeFill
+    fill_there ih =
+        rw (hd, is, left_odd (at W.heap x) room (W.odd x ob))
         (over _ _ _ (λ z. (λ q. z, λ q. absurd (true≢false (sym q))))
-        (ih (a + size_at W x) (room - size_at W x) s (record { heapLength = U.heapLength; rest = λ w (q, l). U.rest w (q, omega arith); copies = U.copies })
+        (ih (a + size_at W x) (room - size_at W x) s (record { heap_length = U.heap_length; rest = λ w (q, l). U.rest w (q, omega arith); copies = U.copies })
         (omega arith) (omega (arith, fits)) (omega (arith, some_words W x ob, fits))
-        (behind-place W t I T g x a (room - size_at W x) (kept-place W t k) pg (omega (arith, fits)))))
+        (behind_place W t I T g x a (room - size_at W x) (kept_place W t k) pg (omega (arith, fits)))))
 
   -- the place that an object left becomes a filler
   module _ (f room : ℕ) (s : Filled) (m : Move) (mem : Memᴰ m t.moves) (U : Unfilled W t (OnFrom W g m.from) s.heap) (lo : g * W.plan.page ≤ m.from)
@@ -148,94 +148,94 @@ module _ (W : World) (t : State) (I : Inv W t) (T : Tiled W t) (g : ℕ) (K : Ke
     abbrev withFiller : Filled
     withFiller = record { heap = filledHeap; places = s.places ++ (a ∷ []) }
 
-    room-left : size_at W m.from ≤ room
-    room-left = omega (arith, place_end W t I g a a (from_place W t I m mem) pg)
+    room_left : size_at W m.from ≤ room
+    room_left = omega (arith, place_end W t I g a a (from_place W t I m mem) pg)
 
     word : at s.heap a ≡ at t.heap a
     word = U.rest a (pg, le_refl a)
 
-    copy-same : at s.heap (at t.heap a / 2) ≡ at t.heap (at t.heap a / 2)
-    copy-same = rw (left-copy W t I m mem) (U.copies m.to (I.moved m mem).fresh)
+    copy_same : at s.heap (at t.heap a / 2) ≡ at t.heap (at t.heap a / 2)
+    copy_same = rw (left_copy W t I m mem) (U.copies m.to (I.moved m mem).fresh)
 
-    size-left : sizeAtCopy s.heap (at t.heap a) ≡ size_at W m.from
-    unfolding sizeAtCopy
-    size-left = ap size_of copy-same ∙ left-size W t I m mem
+    size_left : size_at_copy s.heap (at t.heap a) ≡ size_at W m.from
+    unfolding size_at_copy
+    size_left = ap size_of copy_same ∙ left_size W t I m mem
 
-    is-left : Left (at t.heap a) room
-    is-left = left_word W t I T.page0 m mem room room-left
+    is_left_lem : Left (at t.heap a) room
+    is_left_lem = left_word W t I T.page0 m mem room room_left
 
-    step-safe : SafeStep s.heap (at t.heap a) room
-    step-safe =
-        let S : SafeStep t.heap (at t.heap a) room = left_step W t I m mem room room-left in
-        record { inside = rw U.heapLength S.inside; some = rw size-left (from_some W t I m mem); fits = rw size-left room-left }
+    step_safe : SafeStep s.heap (at t.heap a) room
+    step_safe =
+        let S : SafeStep t.heap (at t.heap a) room = left_step W t I m mem room room_left in
+        record { inside = rw U.heap_length S.inside; some = rw size_left (from_some W t I m mem); fits = rw size_left room_left }
 
     -- the words of the filler, and all others
-    filler-in : (i : ℕ) → i < n → at filledHeap (a + i) ≡ at (filler n) i
-    filler-in i h =
-        let q : a + size_at W m.from ≤ length t.heap = omega (arith, W.inside a (I.moved m mem).object, I.heapLength) in
-        sets-in s.heap a (filler n) i (omega (arith, filler-length n (from_some W t I m mem))) (omega (arith, filler-length n (from_some W t I m mem), U.heapLength))
+    filler_in : (i : ℕ) → i < n → at filledHeap (a + i) ≡ at (filler n) i
+    filler_in i h =
+        let q : a + size_at W m.from ≤ length t.heap = omega (arith, W.inside a (I.moved m mem).object, I.heap_length) in
+        sets_in s.heap a (filler n) i (omega (arith, filler_length n (from_some W t I m mem))) (omega (arith, filler_length n (from_some W t I m mem), U.heap_length))
 
-    filler-out : (w : ℕ) → (w < a) ⊎ (a + n ≤ w) → at filledHeap w ≡ at s.heap w
-    filler-out w (inl l) = sets-other s.heap a (filler n) w (inl l)
-    filler-out w (inr l) = sets-other s.heap a (filler n) w (inr (omega (arith, filler-length n (from_some W t I m mem))))
+    filler_out : (w : ℕ) → (w < a) ⊎ (a + n ≤ w) → at filledHeap w ≡ at s.heap w
+    filler_out w (inl l) = sets_other s.heap a (filler n) w (inl l)
+    filler_out w (inr l) = sets_other s.heap a (filler n) w (inr (omega (arith, filler_length n (from_some W t I m mem))))
 
-    filler-else : (w : ℕ) → page_of W w ≢ g → at filledHeap w ≡ at s.heap w
-    filler-else w q = filler-out w (go (dec_lt w a) (dec_lt w (a + n)))
+    filler_else : (w : ℕ) → page_of W w ≢ g → at filledHeap w ≡ at s.heap w
+    filler_else w q = filler_out w (go (dec_lt w a) (dec_lt w (a + n)))
       where
         go : Dec (w < a) → Dec (w < a + n) → (w < a) ⊎ (a + n ≤ w)
         go (yes l) d = inl l
         go (no l) (no k) = inr (omega arith)
-        go (no l) (yes k) = absurd (q (on-page W.pos w g (omega arith) (omega (arith, room-left))))
+        go (no l) (yes k) = absurd (q (on_page W.pos w g (omega arith) (omega (arith, room_left))))
 
     unfilled : Unfilled W t (OnFrom W g (a + n)) filledHeap
     unfilled = record {
-      heapLength = length-sets s.heap a (filler n) ∙ U.heapLength;
-      rest = λ w (q, l). filler-out w (inr l) ∙ U.rest w (q, omega arith);
-      copies = λ w q. filler-else w (λ z. W.old≢0 (sym K.old ∙ ap (at W.labels) (sym z) ∙ q)) ∙ U.copies w q;
+      heap_length = length-sets s.heap a (filler n) ∙ U.heap_length;
+      rest = λ w (q, l). filler_out w (inr l) ∙ U.rest w (q, omega arith);
+      copies = λ w q. filler_else w (λ z. W.old≢0 (sym K.old ∙ ap (at W.labels) (sym z) ∙ q)) ∙ U.copies w q;
     }
 
     -- another object that was copied from here on was copied from behind it
-    same-or-beyond : (k : Move) → Memᴰ k t.moves → a ≤ k.from → (k.from ≡ a) ⊎ (a + n ≤ k.from)
-    same-or-beyond k mek l = go (place-apart W t I k.from k.from a a (from_place W t I k mek) (from_place W t I m mem))
+    same_or_beyond : (k : Move) → Memᴰ k t.moves → a ≤ k.from → (k.from ≡ a) ⊎ (a + n ≤ k.from)
+    same_or_beyond k mek l = go (place_apart W t I k.from k.from a a (from_place W t I k mek) (from_place W t I m mem))
       where
         go : SameOrApart W k.from k.from a a → (k.from ≡ a) ⊎ (a + n ≤ k.from)
         go (inl (q, z)) = inl q
         go (inr (inl z)) = absurd (omega (arith, from_some W t I k mek))
         go (inr (inr z)) = inr z
 
-    over-left : (s' : Filled) (Safe Safe' : Type 0) → (Safe → Safe') → FilledFrom W t g (a + n) withFiller s' Safe → FilledFrom W t g a s s' Safe'
-    over-left s' Safe Safe' safe r = record {
+    over_left : (s' : Filled) (Safe Safe' : Type 0) → (Safe → Safe') → FilledFrom W t g (a + n) withFiller s' Safe → FilledFrom W t g a s s' Safe'
+    over_left s' Safe Safe' safe r = record {
       safe = safe r.safe;
-      heapLength = r.heapLength ∙ length-sets s.heap a (filler n);
+      heap_length = r.heap_length ∙ length-sets s.heap a (filler n);
       else = λ w d. before w d;
       same = λ w q l c. within w q l c (c m mem);
-      head = λ k mek q l. head k mek q (same-or-beyond k mek l);
-      zeros = λ k mek q l i low high. zeros k mek q i low high (same-or-beyond k mek l);
+      head = λ k mek q l. head k mek q (same_or_beyond k mek l);
+      zeros = λ k mek q l i low high. zeros k mek q i low high (same_or_beyond k mek l);
       more = a ∷ r.more;
       places = r.places ∙ append_assoc s.places (a ∷ []) r.more;
       left = λ y q. from y (Memᴰ.cases_cons q);
-      all = λ k mek q l. all k mek q (same-or-beyond k mek l);
+      all = λ k mek q l. all k mek q (same_or_beyond k mek l);
       once = (λ q. let (k, mek, ey, ep, l) = r.left a q in omega (arith, from_some W t I m mem), r.once);
     }
       where
         here : (i : ℕ) → i < n → at s'.heap (a + i) ≡ at (filler n) i
-        here i h = r.else (a + i) (inr (omega arith)) ∙ filler-in i h
+        here i h = r.else (a + i) (inr (omega arith)) ∙ filler_in i h
 
         before : (w : ℕ) → (page_of W w ≢ g) ⊎ (w < a) → at s'.heap w ≡ at s.heap w
-        before w (inl q) = r.else w (inl q) ∙ filler-else w q
-        before w (inr q) = r.else w (inr (omega arith)) ∙ filler-out w (inl q)
+        before w (inl q) = r.else w (inl q) ∙ filler_else w q
+        before w (inr q) = r.else w (inr (omega arith)) ∙ filler_out w (inl q)
 
         within : (w : ℕ) → page_of W w ≡ g → a ≤ w → Clear W t w → (w < a) ⊎ (a + n ≤ w) → at s'.heap w ≡ at t.heap w
         within w q l c (inl z) = absurd (omega arith)
         within w q l c (inr z) = r.same w q z c
 
-        head : (k : Move) → Memᴰ k t.moves → page_of W k.from ≡ g → (k.from ≡ a) ⊎ (a + n ≤ k.from) → at s'.heap k.from ≡ headerOf (size_at W k.from - 1) 0
+        head : (k : Move) → Memᴰ k t.moves → page_of W k.from ≡ g → (k.from ≡ a) ⊎ (a + n ≤ k.from) → at s'.heap k.from ≡ header_of (size_at W k.from - 1) 0
         head k mek q (inr z) = r.head k mek q z
-        head k mek q (inl z) = rw z ((simp add-zero at (here 0 (from_some W t I m mem))) ∙ filler-head n)
+        head k mek q (inl z) = rw z ((simp add-zero at (here 0 (from_some W t I m mem))) ∙ filler_head n)
 
         zeros : (k : Move) → Memᴰ k t.moves → page_of W k.from ≡ g → (i : ℕ) → 0 < i → i < size_at W k.from → (k.from ≡ a) ⊎ (a + n ≤ k.from) → at s'.heap (k.from + i) ≡ 0
         zeros k mek q i low high (inr z) = r.zeros k mek q z i low high
-        zeros k mek q i low high (inl z) = rw z (here i (rw z at high) ∙ filler-zeros n i low)
+        zeros k mek q i low high (inl z) = rw z (here i (rw z at high) ∙ filler_zeros n i low)
 
         from : (y : ℕ) → (y ≡ a) ⊎ Memᴰ y r.more → (k : Move) × Memᴰ k t.moves × (y ≡ k.from) × (page_of W y ≡ g) × (a ≤ y)
         from y (inl q) = (m, mem, q, ap (page_of W) q ∙ pg, omega arith)
@@ -245,55 +245,55 @@ module _ (W : World) (t : State) (I : Inv W t) (T : Tiled W t) (g : ℕ) (K : Ke
         all k mek q (inl z) = Memᴰ.head z
         all k mek q (inr z) = Memᴰ.tail (r.all k mek q z)
 
-    fill-left : FillOk f → FilledBy W t g (suc f) a room s
-    unfolding fillPage fillPlace SafeFill
-    fill-left ih =
-        rw (word, size-left, left-no-header (at t.heap a) room room is-left, left_is (at t.heap a) room is-left)
-        (over-left _ _ _ (λ z. (λ q. absurd (true≢false (sym q)), λ q. (step-safe, z)))
-        (ih (a + n) (room - n) withFiller unfilled (omega arith) (omega (arith, room-left)) (omega (arith, from_some W t I m mem, room-left))
-        (behind-place W t I T g a a (room - n) (from_place W t I m mem) pg (omega (arith, room-left)))))
+    fill_left : FillOk f → FilledBy W t g (suc f) a room s
+    unfolding fill_page fill_place SafeFill
+    fill_left ih =
+        rw (word, size_left, left_no_header (at t.heap a) room room is_left_lem, left_is (at t.heap a) room is_left_lem)
+        (over_left _ _ _ (λ z. (λ q. absurd (true≢false (sym q)), λ q. (step_safe, z)))
+        (ih (a + n) (room - n) withFiller unfilled (omega arith) (omega (arith, room_left)) (omega (arith, from_some W t I m mem, room_left))
+        (behind_place W t I T g a a (room - n) (from_place W t I m mem) pg (omega (arith, room_left)))))
 
   fill_none : FillOk zero
-  unfolding fillPage SafeFill
-  fill_none a room s U lo e le (at-stop h l none bl tp) = fill_end a s (Unit {0}) tt U none
-  fill_none a room s U lo e le (at_place x k pg) = absurd (omega (arith, place_end W t I g x a k pg, some_words W x (place-obj W t I x a k)))
+  unfolding fill_page SafeFill
+  fill_none a room s U lo e le (at_stop h l none bl tp) = fill_end a s (Unit {0}) tt U none
+  fill_none a room s U lo e le (at_place x k pg) = absurd (omega (arith, place_end W t I g x a k pg, some_words W x (place_obj W t I x a k)))
 
   -- at the stop, and at a place
   fill_stop : (f a room : ℕ) (s : Filled) → Unfilled W t (OnFrom W g a) s.heap → ((x y : ℕ) → Place W t x y → page_of W y ≡ g → y + size_at W x ≤ a)
-      → isHeader (at s.heap a) room ≡ false → isLeft (at s.heap a) room ≡ false → FilledBy W t g (suc f) a room s
-  unfolding fillPage SafeFill
+      → is_header (at s.heap a) room ≡ false → is_left (at s.heap a) room ≡ false → FilledBy W t g (suc f) a room s
+  unfolding fill_page SafeFill
   fill_stop f a room s U none h l = rw (h, l) (fill_end a s _ (λ q. absurd (true≢false (sym q)), λ q. absurd (true≢false (sym q))) U none)
 
-  fill-place : (f a room : ℕ) (s : Filled) → Unfilled W t (OnFrom W g a) s.heap → g * W.plan.page ≤ a → a + room ≡ g * W.plan.page + W.plan.page → room ≤ suc f
+  fill_place_lem : (f a room : ℕ) (s : Filled) → Unfilled W t (OnFrom W g a) s.heap → g * W.plan.page ≤ a → a + room ≡ g * W.plan.page + W.plan.page → room ≤ suc f
       → (x : ℕ) → page_of W a ≡ g → Standing W t x a → FillOk f → FilledBy W t g (suc f) a room s
-  fill-place f a room s U lo e le x pg (there k) ih = fill-there f a room s U lo e le x k pg ih
-  fill-place f a room s U lo e le x pg (left m mem ex ey) ih =
+  fill_place_lem f a room s U lo e le x pg (there k) ih = fill_there f a room s U lo e le x k pg ih
+  fill_place_lem f a room s U lo e le x pg (left m mem ex ey) ih =
       subst (λ (b : ℕ). Unfilled W t (OnFrom W g b) s.heap → g * W.plan.page ≤ b → b + room ≡ g * W.plan.page + W.plan.page → page_of W b ≡ g → FilledBy W t g (suc f) b room s)
-      (sym (ey ∙ ex)) (λ U lo e pg. fill-left f room s m mem U lo e le pg ih) U lo e pg
+      (sym (ey ∙ ex)) (λ U lo e pg. fill_left f room s m mem U lo e le pg ih) U lo e pg
 
   fill_more : (f : ℕ) → FillOk f → FillOk (suc f)
-  fill_more f ih a room s U lo e le (at_place x k pg) = fill-place f a room s U lo e le x pg (standing W t I x a (ap (at t.pages.labels) pg ∙ K.label) k) ih
-  fill_more f ih a zero s U lo e le (at-stop h l none bl tp) = fill_stop f a zero s U none (header-full _) (left-full _)
-  fill_more f ih a (suc room) s U lo e le (at-stop h l none bl tp) =
-      let q : at s.heap a ≡ at t.heap a = U.rest a (on-page W.pos a g lo (omega arith), le_refl a) in
+  fill_more f ih a room s U lo e le (at_place x k pg) = fill_place_lem f a room s U lo e le x pg (standing W t I x a (ap (at t.pages.labels) pg ∙ K.label) k) ih
+  fill_more f ih a zero s U lo e le (at_stop h l none bl tp) = fill_stop f a zero s U none (header_full _) (left_full _)
+  fill_more f ih a (suc room) s U lo e le (at_stop h l none bl tp) =
+      let q : at s.heap a ≡ at t.heap a = U.rest a (on_page W.pos a g lo (omega arith), le_refl a) in
       fill_stop f a (suc room) s U none (rw q h) (rw q l)
 
-  fill-ok : (f : ℕ) → FillOk f
-  fill-ok zero = fill_none
-  fill-ok (suc f) = fill_more f (fill-ok f)
+  fill_ok : (f : ℕ) → FillOk f
+  fill_ok zero = fill_none
+  fill_ok (suc f) = fill_more f (fill_ok f)
 
   -- the whole page
-  page-start : Cursor W t g (g * W.plan.page) W.plan.page
-  page-start = go (T.first g (λ z. W.new≢0 (sym K.label ∙ z)))
+  page_start : Cursor W t g (g * W.plan.page) W.plan.page
+  page_start = go (T.first g (λ z. W.new≢0 (sym K.label ∙ z)))
     where
       go : Begins W t g → Cursor W t g (g * W.plan.page) W.plan.page
-      go (inl (x, k)) = at_place x k (first-on-page W.pos g)
-      go (inr (a, b)) = absurd (W.old≢0 (sym K.old ∙ ap (at W.labels) a ∙ I.copyFresh))
+      go (inl (x, k)) = at_place x k (first_on_page W.pos g)
+      go (inr (a, b)) = absurd (W.old≢0 (sym K.old ∙ ap (at W.labels) a ∙ I.copy_fresh))
 
-  pub page-inside : g * W.plan.page + W.plan.page ≤ length t.heap
-  page-inside =
-      let q : g < length t.pages.labels = in-range t.pages.labels g (λ z. W.new≢0 (sym K.label ∙ z)) in
-      omega (arith, page-end g W.plan.page (length W.labels) (omega (arith, I.labelsLength)), W.heapLength, I.heapLength)
+  pub page_inside : g * W.plan.page + W.plan.page ≤ length t.heap
+  page_inside =
+      let q : g < length t.pages.labels = in_range t.pages.labels g (λ z. W.new≢0 (sym K.label ∙ z)) in
+      omega (arith, page_end g W.plan.page (length W.labels) (omega (arith, I.labels_length)), W.heap_length, I.heap_length)
 
-  pub fill-whole : (s : Filled) → Unfilled W t (OnFrom W g (g * W.plan.page)) s.heap → FilledWhole W t g s
-  fill-whole s U = fill-ok W.plan.page (g * W.plan.page) W.plan.page s U (le_refl _) refl (le_refl _) page-start
+  pub fill_whole : (s : Filled) → Unfilled W t (OnFrom W g (g * W.plan.page)) s.heap → FilledWhole W t g s
+  fill_whole s U = fill_ok W.plan.page (g * W.plan.page) W.plan.page s U (le_refl _) refl (le_refl _) page_start

@@ -5,29 +5,29 @@ use Rattle.rules.specs.Ranges.{at}
 use Rattle.rules.specs.Header.{size_of}
 use Rattle.rules.specs.Collection.{State, top}
 use Rattle.laws.specs.Safe.{SafeTake, SafeCopy, SafeKeep, SafeForward}
-use Rattle.laws.specs.Words.{in-range}
-use Rattle.laws.specs.Pages.{pages-apart}
+use Rattle.laws.specs.Words.{in_range}
+use Rattle.laws.specs.Pages.{pages_apart}
 use Rattle.laws.specs.FreePages.{Lowest}
-use Rattle.theory.specs.Queue.{Queued, queue-room}
+use Rattle.theory.specs.Queue.{Queued, queue_room}
 use Rattle.theory.specs.World.{page_of, label_of, size_at, World, Gone, AsBefore, Reach, Inv}
-use Rattle.theory.specs.Places.{some_words, word-inside, obj-label, obj-label-used, old-before}
-use Rattle.theory.specs.Put.{Ready, top-page, to-fits, to_inside}
-use Rattle.theory.specs.Take.{page-inside}
-use Rattle.theory.specs.Keep.{page-inside as kept-inside}
-use Rattle.theory.specs.Forward.{Due, Avail, can-says, room_for, open-room}
-use Rattle.theory.specs.Packs.{Packs, packs-within, words_left}
+use Rattle.theory.specs.Places.{some_words, word_inside, obj_label, obj_label_used, old_before}
+use Rattle.theory.specs.Put.{Ready, top_page, to_fits, to_inside}
+use Rattle.theory.specs.Take.{page_inside}
+use Rattle.theory.specs.Keep.{page_inside as kept-inside}
+use Rattle.theory.specs.Forward.{Due, Avail, can_says, room_for, open_room}
+use Rattle.theory.specs.Packs.{Packs, packs_within, words_left}
 
 module _ (W : World) (s : State) (I : Inv W s) (K : Packs W s) (Q : Queued W.plan.new s.pages.labels s.pages.queue) where
   module _ (x : ℕ) (D : Due W s x) (av : Avail W s (size_at W x)) where
-    take-safe : W.plan.page < s.pages.fill + size_at W x → SafeTake W.plan s.pages
-    take-safe lt =
+    take_safe : W.plan.page < s.pages.fill + size_at W x → SafeTake W.plan s.pages
+    take_safe lt =
         let L : Lowest s.pages.labels W.plan.lo W.plan.hi = av.page lt in
         record {
           new = W.new≢0;
-          hi = omega (arith, W.high, I.labelsLength);
+          hi = omega (arith, W.high, I.labels_length);
           found = L.high;
-          few = omega (arith, I.labelsLength, W.few);
-          queue = queue-room W.plan.new s.pages.labels s.pages.queue _ W.new≢0 (page-inside W s I av.unkept L) (λ q. W.new≢0 (sym q ∙ L.free)) Q;
+          few = omega (arith, I.labels_length, W.few);
+          queue = queue_room W.plan.new s.pages.labels s.pages.queue _ W.new≢0 (page_inside W s I av.unkept L) (λ q. W.new≢0 (sym q ∙ L.free)) Q;
         }
 
     -- there is room for the copy, and then it is apart from the object
@@ -35,20 +35,20 @@ module _ (W : World) (s : State) (I : Inv W s) (K : Packs W s) (Q : Queued W.pla
     t = room_for W s x
 
     ready : Ready W t x
-    ready = (open-room W s I x D av).ready
+    ready = (open_room W s I x D av).ready
 
     apart : (x + size_at W x ≤ top W.plan t.pages) ⊎ (top W.plan t.pages + size_at W x ≤ x)
-    apart = pages-apart W.plan.page x (size_at W x) (top W.plan t.pages) (size_at W x) (W.fits x D.object) (to-fits W t x ready)
-        (λ q. W.old≢0 (sym (old-before W s I x D.object D.old) ∙ ap (at W.labels) (q ∙ top-page W t x ready) ∙ ready.inv.copyFresh))
+    apart = pages_apart W.plan.page x (size_at W x) (top W.plan t.pages) (size_at W x) (W.fits x D.object) (to_fits W t x ready)
+        (λ q. W.old≢0 (sym (old_before W s I x D.object D.old) ∙ ap (at W.labels) (q ∙ top_page W t x ready) ∙ ready.inv.copy_fresh))
 
-    copy-safe : SafeCopy W.plan (size_at W x) x s
-    copy-safe = record {
-      fill = I.fillWithin;
-      take = take-safe;
-      from = omega (arith, W.inside x D.object, I.heapLength);
+    copy_safe : SafeCopy W.plan (size_at W x) x s
+    copy_safe = record {
+      fill = I.fill_within;
+      take = take_safe;
+      from = omega (arith, W.inside x D.object, I.heap_length);
       into = to_inside W t x ready;
       apart = apart;
-      small = omega (arith, I.heapLength, W.small);
+      small = omega (arith, I.heap_length, W.small);
       objects = omega (arith, words, K.objects);
       words = words;
     }
@@ -56,39 +56,39 @@ module _ (W : World) (s : State) (I : Inv W s) (K : Packs W s) (Q : Queued W.pla
         words : s.words ≤ 4194304
         words = omega (arith, K.words, words_left W s I K x D, W.most, W.small)
 
-  keep-safe : (x : ℕ) → Due W s x → SafeKeep W.plan (page_of W x) s.pages
-  keep-safe x D = record {
+  keep_safe : (x : ℕ) → Due W s x → SafeKeep W.plan (page_of W x) s.pages
+  keep_safe x D = record {
     new = W.new≢0;
     used = λ q. W.old≢0 (sym D.old ∙ q);
-    few = omega (arith, I.labelsLength, W.few);
-    queue = queue-room W.plan.new s.pages.labels s.pages.queue _ W.new≢0 (kept-inside W s I x D.object D.old (packs-within W s K)) (λ q. W.new≢old (sym q ∙ D.old)) Q;
-    kept = packs-within W s K;
+    few = omega (arith, I.labels_length, W.few);
+    queue = queue_room W.plan.new s.pages.labels s.pages.queue _ W.new≢0 (kept-inside W s I x D.object D.old (packs_within W s K)) (λ q. W.new≢old (sym q ∙ D.old)) Q;
+    kept = packs_within W s K;
   }
 
   -- v is nil, or an object of the heap before that is reached, or on a page with the new label
   abbrev Forwardable : ℕ → Type 0
   Forwardable v = (v ≡ 0) ⊎ ((W.Obj v × Reach W s v) ⊎ (label_of W s v ≡ W.plan.new))
 
-  pub forward-safe : (v : ℕ) → Forwardable v → SafeForward W.plan v s
-  forward-safe v d = record {
+  pub forward_safe : (v : ℕ) → Forwardable v → SafeForward W.plan v s
+  forward_safe v d = record {
     page = W.pos;
-    small = omega (arith, I.heapLength, W.small);
-    fill = I.fillWithin;
-    within = λ n. word-inside W s I v (label n d);
-    label = λ n. in-range s.pages.labels (page_of W v) (label n d);
-    copy = λ n e l q. let D = due n e l d in rw (size D) (copy-safe v D (can-says W s (size_at W v) (rw (size D) at q)));
-    keep = λ n e l q. keep-safe v (due n e l d);
+    small = omega (arith, I.heap_length, W.small);
+    fill = I.fill_within;
+    within = λ n. word_inside W s I v (label n d);
+    label = λ n. in_range s.pages.labels (page_of W v) (label n d);
+    copy = λ n e l q. let D = due n e l d in rw (size D) (copy_safe v D (can_says W s (size_at W v) (rw (size D) at q)));
+    keep = λ n e l q. keep_safe v (due n e l d);
   }
     where
       label : v ≢ 0 → Forwardable v → label_of W s v ≢ 0
       label n (inl z) = absurd (n z)
       label n (inr (inr c)) = λ q. W.new≢0 (sym c ∙ q)
-      label n (inr (inl (ob, rc))) = obj-label-used W s I v ob
+      label n (inr (inl (ob, rc))) = obj_label_used W s I v ob
 
       due : v ≢ 0 → at s.heap v % 2 ≢ 0 → label_of W s v ≢ W.plan.new → Forwardable v → Due W s v
       due n e l (inl z) = absurd (n z)
       due n e l (inr (inr c)) = absurd (l c)
-      due n e l (inr (inl (ob, rc))) = kind (obj-label W s I v ob)
+      due n e l (inr (inl (ob, rc))) = kind (obj_label W s I v ob)
         where
           unmoved : label_of W s v ≡ W.plan.old → Gone s v ⊎ AsBefore W s v → Due W s v
           unmoved o (inr same) = record { object = ob; old = o; reached = rc; same = same }

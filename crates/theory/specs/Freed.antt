@@ -6,67 +6,67 @@ use Rattle.std.proofs.Math.Decide.{dec_lt}
 use Rattle.std.proofs.lemmas.List.{length-replicate, get_or-replicate}
 use Rattle.std.proofs.Math.ListN.{get_or-append, get_or-eq_default}
 use Rattle.rules.specs.Ranges.{at}
-use Rattle.rules.specs.Collection.{freedLabels, freedHeap}
+use Rattle.rules.specs.Collection.{freed_labels, freed_heap}
 
 cond_same : (b : Bool) → ◌≡◌ {A = ℕ} 0 (cond b 0 0)
 cond_same true = refl
 cond_same false = refl
 
-pub freed-labels : (old : ℕ) (labels : List ℕ) (g : ℕ) → at (freedLabels old labels) g ≡ cond (eqb (at labels g) old) 0 (at labels g)
-unfolding freedLabels
-freed-labels old [] g = cond_same (eqb 0 old)
-freed-labels old (l ∷ ls) zero = refl
-freed-labels old (l ∷ ls) (suc g) = freed-labels old ls g
+pub freed_labels_lem : (old : ℕ) (labels : List ℕ) (g : ℕ) → at (freed_labels old labels) g ≡ cond (eqb (at labels g) old) 0 (at labels g)
+unfolding freed_labels
+freed_labels_lem old [] g = cond_same (eqb 0 old)
+freed_labels_lem old (l ∷ ls) zero = refl
+freed_labels_lem old (l ∷ ls) (suc g) = freed_labels_lem old ls g
 
-pub freed-labels-length : (old : ℕ) (labels : List ℕ) → length (freedLabels old labels) ≡ length labels
-unfolding freedLabels
-freed-labels-length old [] = refl
-freed-labels-length old (l ∷ ls) = ap suc (freed-labels-length old ls)
+pub freed_labels_length : (old : ℕ) (labels : List ℕ) → length (freed_labels old labels) ≡ length labels
+unfolding freed_labels
+freed_labels_length old [] = refl
+freed_labels_length old (l ∷ ls) = ap suc (freed_labels_length old ls)
 
 -- one page
 module _ (P old l : ℕ) (h : List ℕ) where
   abbrev page : List ℕ
   page = cond (eqb l old) (replicate P 0) (take P h)
 
-  page-length : P ≤ length h → length page ≡ P
-  page-length le = go (eqb l old)
+  page_length : P ≤ length h → length page ≡ P
+  page_length le = go (eqb l old)
     where
       go : (b : Bool) → length (cond b (replicate P 0) (take P h)) ≡ P
       go true = length-replicate P 0
       go false = rw length-take (omega arith)
 
-  page-word : (w : ℕ) → w < P → at page w ≡ cond (eqb l old) 0 (at h w)
-  page-word w lt = go (eqb l old)
+  page_word : (w : ℕ) → w < P → at page w ≡ cond (eqb l old) 0 (at h w)
+  page_word w lt = go (eqb l old)
     where
       go : (b : Bool) → at (cond b (replicate P 0) (take P h)) w ≡ cond b 0 (at h w)
       go true = get_or-replicate P w 0 0 lt
       go false = get_or-take P h w 0 lt
 
-pub freed-heap-length : (P old : ℕ) (labels h : List ℕ) → length h ≡ length labels * P → length (freedHeap P old labels h) ≡ length h
-unfolding freedHeap
-freed-heap-length P old [] h e = omega arith
-freed-heap-length P old (l ∷ ls) h e =
-    rw (length-append, page-length P old l h (omega arith), freed-heap-length P old ls (drop P h) (rw length-drop (omega arith)), length-drop) (omega arith)
+pub freed_heap_length : (P old : ℕ) (labels h : List ℕ) → length h ≡ length labels * P → length (freed_heap P old labels h) ≡ length h
+unfolding freed_heap
+freed_heap_length P old [] h e = omega arith
+freed_heap_length P old (l ∷ ls) h e =
+    rw (length-append, page_length P old l h (omega arith), freed_heap_length P old ls (drop P h) (rw length-drop (omega arith)), length-drop) (omega arith)
 
-pub freed-heap : (P old : ℕ) → 0 < P → (labels h : List ℕ) → length h ≡ length labels * P → (w : ℕ) → at (freedHeap P old labels h) w ≡ cond (eqb (at labels (w / P)) old) 0 (at h w)
-unfolding freedHeap
-freed-heap P old pos [] h e w = rw (get_or-eq_default h 0 {n = w} (omega arith)) (cond_same (eqb 0 old))
-freed-heap P old pos (l ∷ ls) h e w = go (λ v. freed-heap P old pos ls (drop P h) (rw length-drop (omega arith)) v) (dec_lt w P)
+pub freed_heap_lem : (P old : ℕ) → 0 < P → (labels h : List ℕ) → length h ≡ length labels * P → (w : ℕ) → at (freed_heap P old labels h) w ≡ cond (eqb (at labels (w / P)) old) 0 (at h w)
+unfolding freed_heap
+freed_heap_lem P old pos [] h e w = rw (get_or-eq_default h 0 {n = w} (omega arith)) (cond_same (eqb 0 old))
+freed_heap_lem P old pos (l ∷ ls) h e w = go (λ v. freed_heap_lem P old pos ls (drop P h) (rw length-drop (omega arith)) v) (dec_lt w P)
   where
     A : List ℕ
     A = cond (eqb l old) (replicate P 0) (take P h)
 
     B : List ℕ
-    B = freedHeap P old ls (drop P h)
+    B = freed_heap P old ls (drop P h)
 
-    lenA : length A ≡ P
-    lenA = page-length P old l h (omega arith)
+    len_a : length A ≡ P
+    len_a = page_length P old l h (omega arith)
 
     go : ((v : ℕ) → at B v ≡ cond (eqb (at ls (v / P)) old) 0 (at (drop P h) v)) → Dec (w < P) → at (A ++ B) w ≡ cond (eqb (at (l ∷ ls) (w / P)) old) 0 (at h w)
-    go ih (yes lt) = rw (div-eq_of_lt lt) (get_or-append A B 0 w (omega (arith, lenA)) ∙ page-word P old l h w lt)
+    go ih (yes lt) = rw (div-eq_of_lt lt) (get_or-append A B 0 w (omega (arith, len_a)) ∙ page_word P old l h w lt)
     go ih (no n) =
         let ew : w ≡ P + (w - P) = omega arith in
         let eg : w / P ≡ suc ((w - P) / P) = ap (λ (k : ℕ). k / P) ew ∙ add-div_left (w - P) pos ∙ add-one _ in
-        let ea : at (A ++ B) w ≡ at B (w - P) = ap (at (A ++ B)) (ew ∙ ap (λ (k : ℕ). k + (w - P)) (sym lenA)) ∙ get_or-append-add A B (w - P) 0 in
+        let ea : at (A ++ B) w ≡ at B (w - P) = ap (at (A ++ B)) (ew ∙ ap (λ (k : ℕ). k + (w - P)) (sym len_a)) ∙ get_or-append-add A B (w - P) 0 in
         let ed : at (drop P h) (w - P) ≡ at h w = get_or-drop P h (w - P) 0 ∙ ap (at h) (sym ew) in
         rw eg (ea ∙ ih (w - P) ∙ ap (cond (eqb (at ls ((w - P) / P)) old) 0) ed)

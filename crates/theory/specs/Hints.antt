@@ -12,12 +12,12 @@ use Rattle.std.proofs.Math.ListN.{length, set}
 use Rattle.std.proofs.Math.Seq.{get_or-set_same, get_or-set_other}
 use borrow.Author.Tests.{eqb-true, eqb-false}
 use Rattle.rules.specs.Ranges.{at}
-use Rattle.rules.specs.Pages.{isFree}
-use Rattle.rules.specs.Collection.{Plan, Pages, hintPage, hintPages}
+use Rattle.rules.specs.Pages.{is_free}
+use Rattle.rules.specs.Collection.{Plan, Pages, hint_page, hint_pages}
 use Rattle.laws.specs.Safe.{SafeHints}
-use Rattle.laws.specs.Words.{in-range}
-use Rattle.laws.specs.FreePages.{free-is, not_free}
-use Rattle.theory.specs.Queue.{Queued, join, queue-room}
+use Rattle.laws.specs.Words.{in_range}
+use Rattle.laws.specs.FreePages.{free_is, not_free}
+use Rattle.theory.specs.Queue.{Queued, join, queue_room}
 
 -- before the first hint: each label is 0 or the old one, and the queue is empty
 pub record Unhinted (k : Plan) (b : Pages) : Type 0 where
@@ -32,19 +32,19 @@ pub record Hinting (k : Plan) (b : Pages) (named : List ℕ) (s : Pages) : Type 
   pub copy : s.copy ≡ b.copy
   pub fill : s.fill ≡ b.fill
   pub kept : s.kept ≡ b.kept
-  pub labelsLength : length s.labels ≡ length b.labels
+  pub labels_length : length s.labels ≡ length b.labels
   pub none : (g : ℕ) → at b.labels g ≡ 0 → at s.labels g ≡ 0
   pub used : (g : ℕ) → at b.labels g ≡ k.old → (at s.labels g ≡ k.old) ⊎ (at s.labels g ≡ k.new)
   pub hinted : (g : ℕ) → at s.labels g ≡ k.new → (at b.labels g ≡ k.old) × Memᴰ g named
   pub queued : Queued k.new s.labels s.queue
 
 module _ (k : Plan) (b : Pages) (U : Unhinted k b) (named : List ℕ) where
-  pub begun-hinting : Hinting k b named b
-  begun-hinting = record {
+  pub begun_hinting : Hinting k b named b
+  begun_hinting = record {
     copy = refl;
     fill = refl;
     kept = refl;
-    labelsLength = refl;
+    labels_length = refl;
     none = λ g e. e;
     used = λ g e. inl e;
     hinted = λ g e. absurd (never g e (U.labels g));
@@ -62,18 +62,18 @@ module _ (k : Plan) (b : Pages) (U : Unhinted k b) (named : List ℕ) where
       empty : (j : ℕ) → j < length b.queue → ⊥
       empty j h = omega (arith, ap length U.queue)
 
-  was-old : (s : Pages) → Hinting k b named s → (g : ℕ) → at s.labels g ≡ k.old → at b.labels g ≡ k.old
-  was-old s H g e = go (U.labels g)
+  was_old : (s : Pages) → Hinting k b named s → (g : ℕ) → at s.labels g ≡ k.old → at b.labels g ≡ k.old
+  was_old s H g e = go (U.labels g)
     where
       go : (at b.labels g ≡ 0) ⊎ (at b.labels g ≡ k.old) → at b.labels g ≡ k.old
       go (inl q) = absurd (U.old≢0 (sym e ∙ H.none g q))
       go (inr q) = q
 
-  old-inside : (s : Pages) (g : ℕ) → at s.labels g ≡ k.old → g < length s.labels
-  old-inside s g e = in-range s.labels g (λ q. U.old≢0 (sym e ∙ q))
+  old_inside : (s : Pages) (g : ℕ) → at s.labels g ≡ k.old → g < length s.labels
+  old_inside s g e = in_range s.labels g (λ q. U.old≢0 (sym e ∙ q))
 
-  old-not-new : (s : Pages) (g : ℕ) → at s.labels g ≡ k.old → at s.labels g ≢ k.new
-  old-not-new s g e q = U.new≢old (sym q ∙ e)
+  old_not_new : (s : Pages) (g : ℕ) → at s.labels g ≡ k.old → at s.labels g ≢ k.new
+  old_not_new s g e q = U.new≢old (sym q ∙ e)
 
   -- page g, which is named, joins
   module _ (s : Pages) (H : Hinting k b named s) (g : ℕ) (old : at s.labels g ≡ k.old) (mem : Memᴰ g named) where
@@ -81,18 +81,18 @@ module _ (k : Plan) (b : Pages) (U : Unhinted k b) (named : List ℕ) where
     ls = set s.labels g k.new
 
     inside : g < length s.labels
-    inside = old-inside s g old
+    inside = old_inside s g old
 
-    join-hinting : Hinting k b named (record { labels = ls; queue = s.queue ++ (g ∷ []); copy = s.copy; fill = s.fill; kept = s.kept })
-    join-hinting = record {
+    join_hinting : Hinting k b named (record { labels = ls; queue = s.queue ++ (g ∷ []); copy = s.copy; fill = s.fill; kept = s.kept })
+    join_hinting = record {
       copy = H.copy;
       fill = H.fill;
       kept = H.kept;
-      labelsLength = length-set s.labels g k.new ∙ H.labelsLength;
-      none = λ j e. get_or-set_other s.labels g j k.new 0 (λ q. U.old≢0 (sym (was-old s H g old) ∙ ap (at b.labels) (sym q) ∙ e)) ∙ H.none j e;
+      labels_length = length-set s.labels g k.new ∙ H.labels_length;
+      none = λ j e. get_or-set_other s.labels g j k.new 0 (λ q. U.old≢0 (sym (was_old s H g old) ∙ ap (at b.labels) (sym q) ∙ e)) ∙ H.none j e;
       used = λ j e. us j e (ℕ_discrete j g);
       hinted = λ j e. nm j e (ℕ_discrete j g);
-      queued = join k.new s.labels s.queue g inside (old-not-new s g old) H.queued;
+      queued = join k.new s.labels s.queue g inside (old_not_new s g old) H.queued;
     }
       where
         us : (j : ℕ) → at b.labels j ≡ k.old → Dec (j ≡ g) → (at ls j ≡ k.old) ⊎ (at ls j ≡ k.new)
@@ -104,28 +104,28 @@ module _ (k : Plan) (b : Pages) (U : Unhinted k b) (named : List ℕ) where
             then z (inr a) = inr (z ∙ a)
 
         nm : (j : ℕ) → at ls j ≡ k.new → Dec (j ≡ g) → (at b.labels j ≡ k.old) × Memᴰ j named
-        nm j e (yes q) = (ap (at b.labels) q ∙ was-old s H g old, Memᴰ.cast q mem)
+        nm j e (yes q) = (ap (at b.labels) q ∙ was_old s H g old, Memᴰ.cast q mem)
         nm j e (no q) = H.hinted j (sym (get_or-set_other s.labels g j k.new 0 q) ∙ e)
 
-  hint-page : (s : Pages) → Hinting k b named s → (g : ℕ) → Memᴰ g named → Hinting k b named (hintPage k g s)
-  unfolding hintPage
-  hint-page s H g mem = go (eqb (at s.labels g) k.old) refl
+  hint_page_lem : (s : Pages) → Hinting k b named s → (g : ℕ) → Memᴰ g named → Hinting k b named (hint_page k g s)
+  unfolding hint_page
+  hint_page_lem s H g mem = go (eqb (at s.labels g) k.old) refl
     where
       go : (t : Bool) → eqb (at s.labels g) k.old ≡ t
           → Hinting k b named (cond t (record { labels = set s.labels g k.new; queue = s.queue ++ (g ∷ []); copy = s.copy; fill = s.fill; kept = s.kept }) s)
-      go true e = join-hinting s H g (eqb-true _ _ e) mem
+      go true e = join_hinting s H g (eqb-true _ _ e) mem
       go false e = H
 
-  pub hint-pages : (gs : List ℕ) (s : Pages) → Hinting k b named s → ((g : ℕ) → Memᴰ g gs → Memᴰ g named) → Hinting k b named (hintPages k gs s)
-  unfolding hintPages
-  hint-pages [] s H sub = H
-  hint-pages (g ∷ gs) s H sub = hint-pages gs (hintPage k g s) (hint-page s H g (sub g (Memᴰ.head refl))) (λ z q. sub z (Memᴰ.tail q))
+  pub hint_pages_lem : (gs : List ℕ) (s : Pages) → Hinting k b named s → ((g : ℕ) → Memᴰ g gs → Memᴰ g named) → Hinting k b named (hint_pages k gs s)
+  unfolding hint_pages
+  hint_pages_lem [] s H sub = H
+  hint_pages_lem (g ∷ gs) s H sub = hint_pages_lem gs (hint_page k g s) (hint_page_lem s H g (sub g (Memᴰ.head refl))) (λ z q. sub z (Memᴰ.tail q))
 
   -- ---- each page in use that is named has the new label at the end
 
-  page-keeps : (s : Pages) (j g : ℕ) → at s.labels g ≡ k.new → at (hintPage k j s).labels g ≡ k.new
-  unfolding hintPage
-  page-keeps s j g e = go (eqb (at s.labels j) k.old) refl (ℕ_discrete g j)
+  page_keeps : (s : Pages) (j g : ℕ) → at s.labels g ≡ k.new → at (hint_page k j s).labels g ≡ k.new
+  unfolding hint_page
+  page_keeps s j g e = go (eqb (at s.labels j) k.old) refl (ℕ_discrete g j)
     where
       go : (t : Bool) → eqb (at s.labels j) k.old ≡ t → Dec (g ≡ j)
           → at (cond t (record { labels = set s.labels j k.new; queue = s.queue ++ (j ∷ []); copy = s.copy; fill = s.fill; kept = s.kept }) s).labels g ≡ k.new
@@ -133,58 +133,58 @@ module _ (k : Plan) (b : Pages) (U : Unhinted k b) (named : List ℕ) where
       go true q (no n) = get_or-set_other s.labels j g k.new 0 n ∙ e
       go true q (yes y) = absurd (U.new≢old (sym e ∙ ap (at s.labels) y ∙ eqb-true _ _ q))
 
-  pages-keep : (gs : List ℕ) (s : Pages) (g : ℕ) → at s.labels g ≡ k.new → at (hintPages k gs s).labels g ≡ k.new
-  unfolding hintPages
-  pages-keep [] s g e = e
-  pages-keep (j ∷ gs) s g e = pages-keep gs (hintPage k j s) g (page-keeps s j g e)
+  pages_keep : (gs : List ℕ) (s : Pages) (g : ℕ) → at s.labels g ≡ k.new → at (hint_pages k gs s).labels g ≡ k.new
+  unfolding hint_pages
+  pages_keep [] s g e = e
+  pages_keep (j ∷ gs) s g e = pages_keep gs (hint_page k j s) g (page_keeps s j g e)
 
-  page-gets : (s : Pages) → Hinting k b named s → (g : ℕ) → at b.labels g ≡ k.old → at (hintPage k g s).labels g ≡ k.new
-  unfolding hintPage
-  page-gets s H g us = go (eqb (at s.labels g) k.old) refl (H.used g us)
+  page_gets : (s : Pages) → Hinting k b named s → (g : ℕ) → at b.labels g ≡ k.old → at (hint_page k g s).labels g ≡ k.new
+  unfolding hint_page
+  page_gets s H g us = go (eqb (at s.labels g) k.old) refl (H.used g us)
     where
       go : (t : Bool) → eqb (at s.labels g) k.old ≡ t → (at s.labels g ≡ k.old) ⊎ (at s.labels g ≡ k.new)
           → at (cond t (record { labels = set s.labels g k.new; queue = s.queue ++ (g ∷ []); copy = s.copy; fill = s.fill; kept = s.kept }) s).labels g ≡ k.new
-      go true q d = get_or-set_same s.labels g k.new 0 (old-inside s g (eqb-true _ _ q))
+      go true q d = get_or-set_same s.labels g k.new 0 (old_inside s g (eqb-true _ _ q))
       go false q (inl e) = absurd (eqb-false _ _ q e)
       go false q (inr e) = e
 
-  pub pages-get : (gs : List ℕ) (s : Pages) → Hinting k b named s → ((g : ℕ) → Memᴰ g gs → Memᴰ g named) → (g : ℕ) → Memᴰ g gs
-      → at b.labels g ≡ k.old → at (hintPages k gs s).labels g ≡ k.new
-  unfolding hintPages
-  pages-get [] s H sub g mem us = absurd (Memᴰ.not-nil mem)
-  pages-get (j ∷ gs) s H sub g mem us =
-      go (λ q. pages-get gs (hintPage k j s) (hint-page s H j (sub j (Memᴰ.head refl))) (λ z q. sub z (Memᴰ.tail q)) g q us) (Memᴰ.cases_cons mem)
+  pub pages_get : (gs : List ℕ) (s : Pages) → Hinting k b named s → ((g : ℕ) → Memᴰ g gs → Memᴰ g named) → (g : ℕ) → Memᴰ g gs
+      → at b.labels g ≡ k.old → at (hint_pages k gs s).labels g ≡ k.new
+  unfolding hint_pages
+  pages_get [] s H sub g mem us = absurd (Memᴰ.not-nil mem)
+  pages_get (j ∷ gs) s H sub g mem us =
+      go (λ q. pages_get gs (hint_page k j s) (hint_page_lem s H j (sub j (Memᴰ.head refl))) (λ z q. sub z (Memᴰ.tail q)) g q us) (Memᴰ.cases_cons mem)
     where
-      go : (Memᴰ g gs → at (hintPages k gs (hintPage k j s)).labels g ≡ k.new) → (g ≡ j) ⊎ Memᴰ g gs → at (hintPages k gs (hintPage k j s)).labels g ≡ k.new
+      go : (Memᴰ g gs → at (hint_pages k gs (hint_page k j s)).labels g ≡ k.new) → (g ≡ j) ⊎ Memᴰ g gs → at (hint_pages k gs (hint_page k j s)).labels g ≡ k.new
       go ih (inr q) = ih q
-      go ih (inl q) = pages-keep gs (hintPage k j s) g (subst (λ (i : ℕ). at (hintPage k i s).labels g ≡ k.new) q (page-gets s H g us))
+      go ih (inl q) = pages_keep gs (hint_page k j s) g (subst (λ (i : ℕ). at (hint_page k i s).labels g ≡ k.new) q (page_gets s H g us))
 
   -- ---- the same pages are free, and reading the hints is safe
 
-  pub free-as-before : (s : Pages) → Hinting k b named s → (g : ℕ) → isFree s.labels g ≡ isFree b.labels g
-  free-as-before s H g = go (U.labels g)
+  pub free_as_before : (s : Pages) → Hinting k b named s → (g : ℕ) → is_free s.labels g ≡ is_free b.labels g
+  free_as_before s H g = go (U.labels g)
     where
       us : (at s.labels g ≡ k.old) ⊎ (at s.labels g ≡ k.new) → at s.labels g ≢ 0
       us (inl e) q = U.old≢0 (sym e ∙ q)
       us (inr e) q = U.new≢0 (sym e ∙ q)
 
-      go : (at b.labels g ≡ 0) ⊎ (at b.labels g ≡ k.old) → isFree s.labels g ≡ isFree b.labels g
-      go (inl e) = free-is s.labels g (H.none g e) ∙ sym (free-is b.labels g e)
+      go : (at b.labels g ≡ 0) ⊎ (at b.labels g ≡ k.old) → is_free s.labels g ≡ is_free b.labels g
+      go (inl e) = free_is s.labels g (H.none g e) ∙ sym (free_is b.labels g e)
       go (inr e) = not_free s.labels g (us (H.used g e)) ∙ sym (not_free b.labels g (λ q. U.old≢0 (sym e ∙ q)))
 
-  pub hints-safe : length b.labels ≡ k.hi → 0 < k.hi → k.hi ≤ 4096 → (gs : List ℕ) (s : Pages) → Hinting k b named s
+  pub hints_safe : length b.labels ≡ k.hi → 0 < k.hi → k.hi ≤ 4096 → (gs : List ℕ) (s : Pages) → Hinting k b named s
       → ((g : ℕ) → Memᴰ g gs → Memᴰ g named) → SafeHints k gs s
   unfolding SafeHints
-  hints-safe len low few [] s H sub = tt
-  hints-safe len low few (g ∷ gs) s H sub = (
-    record { new = U.new≢old; labels = H.labelsLength ∙ len; low = low; few = few; queue = room },
-    hints-safe len low few gs (hintPage k g s) (hint-page s H g (sub g (Memᴰ.head refl))) (λ z q. sub z (Memᴰ.tail q)),
+  hints_safe len low few [] s H sub = tt
+  hints_safe len low few (g ∷ gs) s H sub = (
+    record { new = U.new≢old; labels = H.labels_length ∙ len; low = low; few = few; queue = room },
+    hints_safe len low few gs (hint_page k g s) (hint_page_lem s H g (sub g (Memᴰ.head refl))) (λ z q. sub z (Memᴰ.tail q)),
   )
     where
       room : (j : ℕ) → at s.labels j ≡ k.old → length s.queue < k.hi
       room j e =
-          let h : length s.queue < length s.labels = queue-room k.new s.labels s.queue j U.new≢0 (old-inside s j e) (old-not-new s j e) H.queued in
-          omega (arith, H.labelsLength)
+          let h : length s.queue < length s.labels = queue_room k.new s.labels s.queue j U.new≢0 (old_inside s j e) (old_not_new s j e) H.queued in
+          omega (arith, H.labels_length)
 
 -- ---- two readings of the same list
 
@@ -193,19 +193,19 @@ abbrev pub SameOld : Plan → Plan → List ℕ → Pages → Pages → Type 0
 SameOld k l gs p q = (g : ℕ) → Memᴰ g gs → (at p.labels g ≡ k.old → at q.labels g ≡ l.old) × (at q.labels g ≡ l.old → at p.labels g ≡ k.old)
 
 -- a page that has the old label after g joined is another, and had it before
-still-old : (k : Plan) (b : Pages) → Unhinted k b → (p : Pages) (g h : ℕ) → at p.labels g ≡ k.old → at (set p.labels g k.new) h ≡ k.old → (h ≢ g) × (at p.labels h ≡ k.old)
-still-old k b U p g h e z = (other, sym (get_or-set_other p.labels g h k.new 0 other) ∙ z)
+still_old : (k : Plan) (b : Pages) → Unhinted k b → (p : Pages) (g h : ℕ) → at p.labels g ≡ k.old → at (set p.labels g k.new) h ≡ k.old → (h ≢ g) × (at p.labels h ≡ k.old)
+still_old k b U p g h e z = (other, sym (get_or-set_other p.labels g h k.new 0 other) ∙ z)
   where
     other : h ≢ g
-    other q = U.new≢old (sym (get_or-set_same p.labels g k.new 0 (old-inside k b U [] p g e)) ∙ ap (at (set p.labels g k.new)) (sym q) ∙ z)
+    other q = U.new≢old (sym (get_or-set_same p.labels g k.new 0 (old_inside k b U [] p g e)) ∙ ap (at (set p.labels g k.new)) (sym q) ∙ z)
 
 module _ (k l : Plan) (b d : Pages) (U : Unhinted k b) (U' : Unhinted l d) where
   -- then the same pages join, in the same order
-  pub queues-same : (gs : List ℕ) (p q : Pages) → q.queue ≡ p.queue → SameOld k l gs p q → (hintPages l gs q).queue ≡ (hintPages k gs p).queue
-  unfolding hintPages hintPage
-  queues-same [] p q e same = e
-  queues-same (g ∷ gs) p q e same =
-      go (queues-same gs) (eqb (at p.labels g) k.old) refl (eqb (at q.labels g) l.old) refl
+  pub queues_same : (gs : List ℕ) (p q : Pages) → q.queue ≡ p.queue → SameOld k l gs p q → (hint_pages l gs q).queue ≡ (hint_pages k gs p).queue
+  unfolding hint_pages hint_page
+  queues_same [] p q e same = e
+  queues_same (g ∷ gs) p q e same =
+      go (queues_same gs) (eqb (at p.labels g) k.old) refl (eqb (at q.labels g) l.old) refl
     where
       joined : Plan → Pages → Pages
       joined j p = record { labels = set p.labels g j.new; queue = p.queue ++ (g ∷ []); copy = p.copy; fill = p.fill; kept = p.kept }
@@ -218,13 +218,13 @@ module _ (k l : Plan) (b d : Pages) (U : Unhinted k b) (U' : Unhinted l d) where
 
       both : at p.labels g ≡ k.old → at q.labels g ≡ l.old → SameOld k l gs (joined k p) (joined l q)
       both ep eq h mem = (
-        λ z. let (n, o) = still-old k b U p g h ep z in get_or-set_other q.labels g h l.new 0 n ∙ (rest h mem).0 o,
-        λ z. let (n, o) = still-old l d U' q g h eq z in get_or-set_other p.labels g h k.new 0 n ∙ (rest h mem).1 o,
+        λ z. let (n, o) = still_old k b U p g h ep z in get_or-set_other q.labels g h l.new 0 n ∙ (rest h mem).0 o,
+        λ z. let (n, o) = still_old l d U' q g h eq z in get_or-set_other p.labels g h k.new 0 n ∙ (rest h mem).1 o,
       )
 
-      go : ((p q : Pages) → q.queue ≡ p.queue → SameOld k l gs p q → (hintPages l gs q).queue ≡ (hintPages k gs p).queue)
+      go : ((p q : Pages) → q.queue ≡ p.queue → SameOld k l gs p q → (hint_pages l gs q).queue ≡ (hint_pages k gs p).queue)
           → (x : Bool) → eqb (at p.labels g) k.old ≡ x → (y : Bool) → eqb (at q.labels g) l.old ≡ y
-          → (hintPages l gs (cond y (joined l q) q)).queue ≡ (hintPages k gs (cond x (joined k p) p)).queue
+          → (hint_pages l gs (cond y (joined l q) q)).queue ≡ (hint_pages k gs (cond x (joined k p) p)).queue
       go ih true ex true ey = ih (joined k p) (joined l q) (ap (λ (z : List ℕ). z ++ (g ∷ [])) e) (both (eqb-true _ _ ex) (eqb-true _ _ ey))
       go ih false ex false ey = ih p q e rest
       go ih true ex false ey = absurd (eqb-false _ _ ey (here.0 (eqb-true _ _ ex)))

@@ -9,14 +9,14 @@ use Rattle.std.proofs.Math.Nat.{zero-div, mul-div_cancel_left}
 use Rattle.std.proofs.Math.Decide.{ℕ_discrete, dec_lt}
 use Rattle.rules.specs.Ranges.{at}
 use Rattle.rules.specs.Header.{size_of}
-use Rattle.rules.specs.Collection.{Move, State, top, sizeAtCopy}
+use Rattle.rules.specs.Collection.{Move, State, top, size_at_copy}
 use Rattle.laws.specs.Headers.{Left}
-use Rattle.laws.specs.Pages.{split-page, same-page, pages-apart}
+use Rattle.laws.specs.Pages.{split_page, same_page, pages_apart}
 use Rattle.laws.specs.Safe.{SafeStep}
 use Rattle.laws.specs.Walk.{size}
-use Rattle.laws.specs.Words.{in-range}
-use Rattle.theory.specs.KeptPages.{not-kept}
-use Rattle.theory.specs.World.{page_of, label_of, labelWas, size_at, World, Gone, NotGone, AsBefore, Kept, stayed, went, Place, home, away, kept-place, Region, Moved, KeptPage, LabelledOrKept, Inv}
+use Rattle.laws.specs.Words.{in_range}
+use Rattle.theory.specs.KeptPages.{not_kept}
+use Rattle.theory.specs.World.{page_of, label_of, label_was, size_at, World, Gone, NotGone, AsBefore, Kept, stayed, went, Place, home, away, kept_place, Region, Moved, KeptPage, LabelledOrKept, Inv}
 
 -- two places: the same one, or one ends before the other begins
 abbrev pub SameOrApart : World → ℕ → ℕ → ℕ → ℕ → Type 0
@@ -28,10 +28,10 @@ pub data Standing (W : World) (s : State) (x y : ℕ) : Type 0 where
   left : (m : Move) → Memᴰ m s.moves → x ≡ m.from → y ≡ x → Standing W s x y
 
 -- an object's page was in use
-pub obj-used : (W : World) (x : ℕ) → W.Obj x → labelWas W x ≢ 0
-obj-used W x ob q = go (W.kind x ob)
+pub obj_used : (W : World) (x : ℕ) → W.Obj x → label_was W x ≢ 0
+obj_used W x ob q = go (W.kind x ob)
   where
-    go : (labelWas W x ≡ W.plan.old) ⊎ (labelWas W x ≡ W.plan.new) → ⊥
+    go : (label_was W x ≡ W.plan.old) ⊎ (label_was W x ≡ W.plan.new) → ⊥
     go (inl e) = W.old≢0 (sym e ∙ q)
     go (inr e) = W.new≢0 (sym e ∙ q)
 
@@ -39,12 +39,12 @@ pub some_words : (W : World) (x : ℕ) → W.Obj x → 0 < size_at W x
 some_words W x ob = omega (arith, W.shape x ob)
 
 -- an object was copied, or not
-pub gone-or-not : (W : World) (s : State) (x : ℕ) → Gone s x ⊎ NotGone s x
-gone-or-not W s x = in-moves s.moves
+pub gone_or_not : (W : World) (s : State) (x : ℕ) → Gone s x ⊎ NotGone s x
+gone_or_not W s x = in_moves s.moves
   where
-    in-moves : (l : List Move) → ((m : Move) × Memᴰ m l × (x ≡ m.from)) ⊎ ((m : Move) → Memᴰ m l → m.from ≢ x)
-    in-moves [] = inr (λ m h. absurd (Memᴰ.not-nil h))
-    in-moves (k ∷ l) = go (in-moves l) (ℕ_discrete x k.from)
+    in_moves : (l : List Move) → ((m : Move) × Memᴰ m l × (x ≡ m.from)) ⊎ ((m : Move) → Memᴰ m l → m.from ≢ x)
+    in_moves [] = inr (λ m h. absurd (Memᴰ.not-nil h))
+    in_moves (k ∷ l) = go (in_moves l) (ℕ_discrete x k.from)
       where
         go : ((m : Move) × Memᴰ m l × (x ≡ m.from)) ⊎ ((m : Move) → Memᴰ m l → m.from ≢ x) → Dec (x ≡ k.from)
             → ((m : Move) × Memᴰ m (k ∷ l) × (x ≡ m.from)) ⊎ ((m : Move) → Memᴰ m (k ∷ l) → m.from ≢ x)
@@ -59,119 +59,119 @@ gone-or-not W s x = in-moves s.moves
 module _ (W : World) (s : State) (I : Inv W s) where
   -- ---- labels
 
-  pub hinted-label : (g : ℕ) → at W.labels g ≡ W.plan.new → at s.pages.labels g ≡ W.plan.new
-  hinted-label g e = go (I.used g (λ q. W.new≢0 (sym e ∙ q)))
+  pub hinted_label : (g : ℕ) → at W.labels g ≡ W.plan.new → at s.pages.labels g ≡ W.plan.new
+  hinted_label g e = go (I.used g (λ q. W.new≢0 (sym e ∙ q)))
     where
       go : LabelledOrKept W s g → at s.pages.labels g ≡ W.plan.new
       go (inl q) = q ∙ e
       go (inr k) = k.label
 
-  pub old-before : (x : ℕ) → W.Obj x → label_of W s x ≡ W.plan.old → labelWas W x ≡ W.plan.old
-  old-before x ob e = go (I.used (page_of W x) (obj-used W x ob))
+  pub old_before : (x : ℕ) → W.Obj x → label_of W s x ≡ W.plan.old → label_was W x ≡ W.plan.old
+  old_before x ob e = go (I.used (page_of W x) (obj_used W x ob))
     where
-      go : LabelledOrKept W s (page_of W x) → labelWas W x ≡ W.plan.old
+      go : LabelledOrKept W s (page_of W x) → label_was W x ≡ W.plan.old
       go (inl q) = sym q ∙ e
       go (inr k) = k.old
 
   -- an object's page has the old label or the new one
-  pub obj-label : (x : ℕ) → W.Obj x → (label_of W s x ≡ W.plan.old) ⊎ (label_of W s x ≡ W.plan.new)
-  obj-label x ob = go (W.kind x ob) (I.used (page_of W x) (obj-used W x ob))
+  pub obj_label : (x : ℕ) → W.Obj x → (label_of W s x ≡ W.plan.old) ⊎ (label_of W s x ≡ W.plan.new)
+  obj_label x ob = go (W.kind x ob) (I.used (page_of W x) (obj_used W x ob))
     where
-      go : (labelWas W x ≡ W.plan.old) ⊎ (labelWas W x ≡ W.plan.new) → LabelledOrKept W s (page_of W x)
+      go : (label_was W x ≡ W.plan.old) ⊎ (label_was W x ≡ W.plan.new) → LabelledOrKept W s (page_of W x)
           → (label_of W s x ≡ W.plan.old) ⊎ (label_of W s x ≡ W.plan.new)
       go k (inr q) = inr q.label
       go (inl k) (inl e) = inl (e ∙ k)
       go (inr k) (inl e) = inr (e ∙ k)
 
-  pub obj-label-used : (x : ℕ) → W.Obj x → label_of W s x ≢ 0
-  obj-label-used x ob q = go (obj-label x ob)
+  pub obj_label_used : (x : ℕ) → W.Obj x → label_of W s x ≢ 0
+  obj_label_used x ob q = go (obj_label x ob)
     where
       go : (label_of W s x ≡ W.plan.old) ⊎ (label_of W s x ≡ W.plan.new) → ⊥
       go (inl e) = W.old≢0 (sym e ∙ q)
       go (inr e) = W.new≢0 (sym e ∙ q)
 
   -- a page that had the old label and has the new one is kept
-  pub old-new-kept : (g : ℕ) → at W.labels g ≡ W.plan.old → at s.pages.labels g ≡ W.plan.new → KeptPage W s g
-  old-new-kept g o n = go (I.used g (λ q. W.old≢0 (sym o ∙ q)))
+  pub old_new_kept : (g : ℕ) → at W.labels g ≡ W.plan.old → at s.pages.labels g ≡ W.plan.new → KeptPage W s g
+  old_new_kept g o n = go (I.used g (λ q. W.old≢0 (sym o ∙ q)))
     where
       go : LabelledOrKept W s g → KeptPage W s g
       go (inl q) = absurd (W.new≢old (sym n ∙ q ∙ o))
       go (inr k) = k
 
   -- a word on a page in use is in the heap
-  pub word-inside : (w : ℕ) → label_of W s w ≢ 0 → w < length s.heap
-  word-inside w h =
-      let g : page_of W w < length s.pages.labels = in-range s.pages.labels (page_of W w) h in
-      let k : suc (page_of W w) * W.plan.page ≤ length W.labels * W.plan.page = mul-le-mul_right W.plan.page (omega (arith, I.labelsLength)) in
-      omega (arith, W.heapLength, I.heapLength, split-page W.plan.page w, mod-lt w W.pos)
+  pub word_inside : (w : ℕ) → label_of W s w ≢ 0 → w < length s.heap
+  word_inside w h =
+      let g : page_of W w < length s.pages.labels = in_range s.pages.labels (page_of W w) h in
+      let k : suc (page_of W w) * W.plan.page ≤ length W.labels * W.plan.page = mul-le-mul_right W.plan.page (omega (arith, I.labels_length)) in
+      omega (arith, W.heap_length, I.heap_length, split_page W.plan.page w, mod-lt w W.pos)
 
   -- ---- places
 
-  pub place-obj : (x y : ℕ) → Place W s x y → W.Obj x
-  place-obj x y (home ob e) = ob
-  place-obj x y (away m mem ex ey) = subst W.Obj (sym ex) (I.moved m mem).object
+  pub place_obj : (x y : ℕ) → Place W s x y → W.Obj x
+  place_obj x y (home ob e) = ob
+  place_obj x y (away m mem ex ey) = subst W.Obj (sym ex) (I.moved m mem).object
 
-  pub kept-obj : (x y : ℕ) → Kept W s x y → W.Obj x
-  kept-obj x y k = place-obj x y (kept-place W s k)
+  pub kept_obj : (x y : ℕ) → Kept W s x y → W.Obj x
+  kept_obj x y k = place_obj x y (kept_place W s k)
 
-  pub place-used : (x y : ℕ) → Place W s x y → label_of W s y ≢ 0
-  place-used x y (home ob e) q = obj-label-used x ob (ap (label_of W s) (sym e) ∙ q)
-  place-used x y (away m mem ex ey) q = W.new≢0 (sym (I.moved m mem).label ∙ ap (label_of W s) (sym ey) ∙ q)
+  pub place_used : (x y : ℕ) → Place W s x y → label_of W s y ≢ 0
+  place_used x y (home ob e) q = obj_label_used x ob (ap (label_of W s) (sym e) ∙ q)
+  place_used x y (away m mem ex ey) q = W.new≢0 (sym (I.moved m mem).label ∙ ap (label_of W s) (sym ey) ∙ q)
 
-  pub place-fits : (x y : ℕ) → Place W s x y → y % W.plan.page + size_at W x ≤ W.plan.page
-  place-fits x y (home ob e) = rw e (W.fits x ob)
-  place-fits x y (away m mem ex ey) = rw (ex, ey) (I.moved m mem).fits
+  pub place_fits : (x y : ℕ) → Place W s x y → y % W.plan.page + size_at W x ≤ W.plan.page
+  place_fits x y (home ob e) = rw e (W.fits x ob)
+  place_fits x y (away m mem ex ey) = rw (ex, ey) (I.moved m mem).fits
 
-  pub kept-fits : (x y : ℕ) → Kept W s x y → y % W.plan.page + size_at W x ≤ W.plan.page
-  kept-fits x y k = place-fits x y (kept-place W s k)
+  pub kept_fits : (x y : ℕ) → Kept W s x y → y % W.plan.page + size_at W x ≤ W.plan.page
+  kept_fits x y k = place_fits x y (kept_place W s k)
 
   pub place_end : (g x y : ℕ) → Place W s x y → page_of W y ≡ g → y + size_at W x ≤ g * W.plan.page + W.plan.page
-  place_end g x y k e = omega (arith, place-fits x y k, split-page W.plan.page y, ap (λ (j : ℕ). j * W.plan.page) e)
+  place_end g x y k e = omega (arith, place_fits x y k, split_page W.plan.page y, ap (λ (j : ℕ). j * W.plan.page) e)
 
   -- on the copy page: below the fill
-  pub place-top : (x y : ℕ) → Place W s x y → page_of W y ≡ s.pages.copy → y + size_at W x ≤ top W.plan s.pages
-  place-top x y (home ob e) q = absurd (obj-used W x ob (ap (labelWas W) (sym e) ∙ ap (at W.labels) q ∙ I.copyFresh))
-  place-top x y (away m mem ex ey) q = rw (ex, ey) ((I.moved m mem).below (ap (page_of W) (sym ey) ∙ q))
+  pub place_top : (x y : ℕ) → Place W s x y → page_of W y ≡ s.pages.copy → y + size_at W x ≤ top W.plan s.pages
+  place_top x y (home ob e) q = absurd (obj_used W x ob (ap (label_was W) (sym e) ∙ ap (at W.labels) q ∙ I.copy_fresh))
+  place_top x y (away m mem ex ey) q = rw (ex, ey) ((I.moved m mem).below (ap (page_of W) (sym ey) ∙ q))
 
   -- copies are on pages that were free, objects were not
-  away-home : (m : Move) → Memᴰ m s.moves → (x : ℕ) → W.Obj x → page_of W x ≢ page_of W m.to
-  away-home m mem x ob q = obj-used W x ob (ap (at W.labels) q ∙ (I.moved m mem).fresh)
+  away_home : (m : Move) → Memᴰ m s.moves → (x : ℕ) → W.Obj x → page_of W x ≢ page_of W m.to
+  away_home m mem x ob q = obj_used W x ob (ap (at W.labels) q ∙ (I.moved m mem).fresh)
 
-  pub place-apart : (a b x y : ℕ) → Place W s a b → Place W s x y → SameOrApart W a b x y
-  place-apart a b x y (home oa ea) (home ox ex) = go (dec_lt a x) (dec_lt x a)
+  pub place_apart : (a b x y : ℕ) → Place W s a b → Place W s x y → SameOrApart W a b x y
+  place_apart a b x y (home oa ea) (home ox ex) = go (dec_lt a x) (dec_lt x a)
     where
       go : Dec (a < x) → Dec (x < a) → SameOrApart W a b x y
       go (yes l) d = inr (inl (omega (arith, W.apart a x oa ox l)))
       go (no n) (yes l) = inr (inr (omega (arith, W.apart x a ox oa l)))
       go (no n) (no m) = inl (omega arith, omega arith)
-  place-apart a b x y (home oa ea) (away m mem ex ey) =
-      inr (pages-apart W.plan.page b (size_at W a) y (size_at W x) (place-fits a b (home oa ea)) (place-fits x y (away m mem ex ey))
-      (λ q. away-home m mem a oa (ap (page_of W) (sym ea) ∙ q ∙ ap (page_of W) ey)))
-  place-apart a b x y (away m mem ea eb) (home ox ex) =
-      inr (pages-apart W.plan.page b (size_at W a) y (size_at W x) (place-fits a b (away m mem ea eb)) (place-fits x y (home ox ex))
-      (λ q. away-home m mem x ox (ap (page_of W) (sym ex) ∙ sym q ∙ ap (page_of W) eb)))
-  place-apart a b x y (away m mem ea eb) (away k mek ex ey) = go (I.copiesApart m k mem mek)
+  place_apart a b x y (home oa ea) (away m mem ex ey) =
+      inr (pages_apart W.plan.page b (size_at W a) y (size_at W x) (place_fits a b (home oa ea)) (place_fits x y (away m mem ex ey))
+      (λ q. away_home m mem a oa (ap (page_of W) (sym ea) ∙ q ∙ ap (page_of W) ey)))
+  place_apart a b x y (away m mem ea eb) (home ox ex) =
+      inr (pages_apart W.plan.page b (size_at W a) y (size_at W x) (place_fits a b (away m mem ea eb)) (place_fits x y (home ox ex))
+      (λ q. away_home m mem x ox (ap (page_of W) (sym ex) ∙ sym q ∙ ap (page_of W) eb)))
+  place_apart a b x y (away m mem ea eb) (away k mek ex ey) = go (I.copies_apart m k mem mek)
     where
       go : (m ≡ k) ⊎ ((m.to + size_at W m.from ≤ k.to) ⊎ (k.to + size_at W k.from ≤ m.to)) → SameOrApart W a b x y
       go (inl e) = inl (ea ∙ ap (λ (z : Move). z.from) e ∙ sym ex, eb ∙ ap (λ (z : Move). z.to) e ∙ sym ey)
       go (inr (inl h)) = inr (inl (rw (ea, eb, ey) h))
       go (inr (inr h)) = inr (inr (rw (ex, ey, eb) h))
 
-  pub kept-apart : (a b x y : ℕ) → Kept W s a b → Kept W s x y → SameOrApart W a b x y
-  kept-apart a b x y k l = place-apart a b x y (kept-place W s k) (kept-place W s l)
+  pub kept_apart : (a b x y : ℕ) → Kept W s a b → Kept W s x y → SameOrApart W a b x y
+  kept_apart a b x y k l = place_apart a b x y (kept_place W s k) (kept_place W s l)
 
   -- ---- retained objects
 
   -- their words are in the region
-  pub kept-region : (x y i : ℕ) → Kept W s x y → i < size_at W x → Region W s (y + i)
-  kept-region x y i (stayed st e) h = subst (λ (z : ℕ). Region W s (z + i)) (sym e) (record {
+  pub kept_region : (x y i : ℕ) → Kept W s x y → i < size_at W x → Region W s (y + i)
+  kept_region x y i (stayed st e) h = subst (λ (z : ℕ). Region W s (z + i)) (sym e) (record {
     label = rw pg st.label;
-    below = λ q. absurd (obj-used W x st.object (ap (at W.labels) (sym pg ∙ q) ∙ I.copyFresh));
+    below = λ q. absurd (obj_used W x st.object (ap (at W.labels) (sym pg ∙ q) ∙ I.copy_fresh));
   })
     where
       pg : page_of W (x + i) ≡ page_of W x
-      pg = same-page W.pos x (size_at W x) i (W.fits x st.object) h
-  kept-region x y i (went m mem ex ey) h = subst (λ (z : ℕ). Region W s (z + i)) (sym ey) (record {
+      pg = same_page W.pos x (size_at W x) i (W.fits x st.object) h
+  kept_region x y i (went m mem ex ey) h = subst (λ (z : ℕ). Region W s (z + i)) (sym ey) (record {
     label = rw pg M.label;
     below = λ q. let b : m.to + size_at W m.from ≤ top W.plan s.pages = M.below (sym pg ∙ q) in omega (arith, h');
   })
@@ -183,38 +183,38 @@ module _ (W : World) (s : State) (I : Inv W s) where
       h' = rw ex at h
 
       pg : page_of W (m.to + i) ≡ page_of W m.to
-      pg = same-page W.pos m.to (size_at W m.from) i M.fits h'
+      pg = same_page W.pos m.to (size_at W m.from) i M.fits h'
 
   pub kept_label : (x y : ℕ) → Kept W s x y → label_of W s y ≡ W.plan.new
-  kept_label x y k = simp add-zero at (kept-region x y 0 k (some_words W x (kept-obj x y k))).label
+  kept_label x y k = simp add-zero at (kept_region x y 0 k (some_words W x (kept_obj x y k))).label
 
   -- a place on a page with the new label is one, or what one left
   pub standing : (x y : ℕ) → label_of W s y ≡ W.plan.new → Place W s x y → Standing W s x y
   standing x y l (away m mem ex ey) = there (went m mem ex ey)
-  standing x y l (home ob e) = go (gone-or-not W s x)
+  standing x y l (home ob e) = go (gone_or_not W s x)
     where
       go : Gone s x ⊎ NotGone s x → Standing W s x y
       go (inl (m, mem, ex)) = left m mem ex e
-      go (inr n) = there (stayed (record { object = ob; label = ap (label_of W s) (sym e) ∙ l; notGone = n }) e)
+      go (inr n) = there (stayed (record { object = ob; label = ap (label_of W s) (sym e) ∙ l; not_gone = n }) e)
 
   -- where no page is kept, it is one
-  pub unkept-standing : s.pages.kept ≡ 0 → (x y : ℕ) → label_of W s y ≡ W.plan.new → Place W s x y → Kept W s x y
-  unkept-standing none x y l p = go (standing x y l p)
+  pub unkept_standing : s.pages.kept ≡ 0 → (x y : ℕ) → label_of W s y ≡ W.plan.new → Place W s x y → Kept W s x y
+  unkept_standing none x y l p = go (standing x y l p)
     where
       go : Standing W s x y → Kept W s x y
       go (there k) = k
       go (left m mem ex ey) =
-          let old : labelWas W y ≡ W.plan.old = ap (labelWas W) (ey ∙ ex) ∙ (I.moved m mem).old in
-          absurd (not-kept s.pages none (page_of W y) (old-new-kept (page_of W y) old l).listed)
+          let old : label_was W y ≡ W.plan.old = ap (label_was W) (ey ∙ ex) ∙ (I.moved m mem).old in
+          absurd (not_kept s.pages none (page_of W y) (old_new_kept (page_of W y) old l).listed)
 
   -- none of its words is where an object was copied from
   pub kept_from : (x y : ℕ) → Kept W s x y → (m : Move) → Memᴰ m s.moves
       → (y + size_at W x ≤ m.from) ⊎ (m.from + size_at W m.from ≤ y)
-  kept_from x y K m mem = go (place-apart x y m.from m.from (kept-place W s K) (home (I.moved m mem).object refl))
+  kept_from x y K m mem = go (place_apart x y m.from m.from (kept_place W s K) (home (I.moved m mem).object refl))
     where
       not_there : Kept W s x y → y ≢ m.from
-      not_there (stayed q e) z = q.notGone m mem (sym z ∙ e)
-      not_there (went k mek ex ey) z = away-home k mek m.from (I.moved m mem).object (ap (page_of W) (sym z ∙ ey))
+      not_there (stayed q e) z = q.not_gone m mem (sym z ∙ e)
+      not_there (went k mek ex ey) z = away_home k mek m.from (I.moved m mem).object (ap (page_of W) (sym z ∙ ey))
 
       go : SameOrApart W x y m.from m.from → (y + size_at W x ≤ m.from) ⊎ (m.from + size_at W m.from ≤ y)
       go (inl e) = absurd (not_there K e.1)
@@ -222,43 +222,43 @@ module _ (W : World) (s : State) (I : Inv W s) where
 
   -- ---- what an object left that was copied, where page 0 is free
 
-  to-nonzero : at s.pages.labels 0 ≡ 0 → (m : Move) → Memᴰ m s.moves → m.to ≢ 0
-  to-nonzero free0 m mem t = W.new≢0 (sym (I.moved m mem).label ∙ ap (label_of W s) t ∙ ap (at s.pages.labels) (zero-div W.plan.page) ∙ free0)
+  to_nonzero : at s.pages.labels 0 ≡ 0 → (m : Move) → Memᴰ m s.moves → m.to ≢ 0
+  to_nonzero free0 m mem t = W.new≢0 (sym (I.moved m mem).label ∙ ap (label_of W s) t ∙ ap (at s.pages.labels) (zero-div W.plan.page) ∙ free0)
 
   -- the even word, and by it the length at the copy: that of the object
   pub left_word : at s.pages.labels 0 ≡ 0 → (m : Move) → Memᴰ m s.moves → (room : ℕ) → size_at W m.from ≤ room → Left (at s.heap m.from) room
   left_word free0 m mem room h = record {
     even = omega (arith, (I.moved m mem).planted);
-    some = omega (arith, (I.moved m mem).planted, to-nonzero free0 m mem);
+    some = omega (arith, (I.moved m mem).planted, to_nonzero free0 m mem);
     within = omega (arith, some_words W m.from (I.moved m mem).object);
   }
 
-  pub left-copy : (m : Move) → Memᴰ m s.moves → at s.heap m.from / 2 ≡ m.to
-  left-copy m mem = ap (λ (k : ℕ). k / 2) (I.moved m mem).planted ∙ mul-div_cancel_left m.to (omega arith)
+  pub left_copy : (m : Move) → Memᴰ m s.moves → at s.heap m.from / 2 ≡ m.to
+  left_copy m mem = ap (λ (k : ℕ). k / 2) (I.moved m mem).planted ∙ mul-div_cancel_left m.to (omega arith)
 
-  pub left-size : (m : Move) → Memᴰ m s.moves → sizeAtCopy s.heap (at s.heap m.from) ≡ size_at W m.from
-  unfolding sizeAtCopy
-  left-size m mem = ap (size s.heap) (left-copy m mem) ∙ ap size_of (I.header m.from m.to (went m mem refl refl))
+  pub left_size : (m : Move) → Memᴰ m s.moves → size_at_copy s.heap (at s.heap m.from) ≡ size_at W m.from
+  unfolding size_at_copy
+  left_size m mem = ap (size s.heap) (left_copy m mem) ∙ ap size_of (I.header m.from m.to (went m mem refl refl))
 
   pub left_step : (m : Move) → Memᴰ m s.moves → (room : ℕ) → size_at W m.from ≤ room → SafeStep s.heap (at s.heap m.from) room
   left_step m mem room h = record {
-    inside = rw (left-copy m mem) (word-inside m.to (λ q. W.new≢0 (sym (I.moved m mem).label ∙ q)));
-    some = rw (left-size m mem) (some_words W m.from (I.moved m mem).object);
-    fits = rw (left-size m mem) h;
+    inside = rw (left_copy m mem) (word_inside m.to (λ q. W.new≢0 (sym (I.moved m mem).label ∙ q)));
+    some = rw (left_size m mem) (some_words W m.from (I.moved m mem).object);
+    fits = rw (left_size m mem) h;
   }
 
   -- no place begins with 0
-  pub place-nonzero : at s.pages.labels 0 ≡ 0 → (x y : ℕ) → Place W s x y → at s.heap y ≢ 0
-  place-nonzero free0 x y (away m mem ex ey) q =
+  pub place_nonzero : at s.pages.labels 0 ≡ 0 → (x y : ℕ) → Place W s x y → at s.heap y ≢ 0
+  place_nonzero free0 x y (away m mem ex ey) q =
       let h : at s.heap y ≡ at W.heap x = I.header x y (went m mem ex ey) in
-      omega (arith, W.odd x (place-obj x y (away m mem ex ey)))
-  place-nonzero free0 x y (home ob e) q = go (obj-label x ob)
+      omega (arith, W.odd x (place_obj x y (away m mem ex ey)))
+  place_nonzero free0 x y (home ob e) q = go (obj_label x ob)
     where
       z : at s.heap x ≡ 0
       z = ap (at s.heap) (sym e) ∙ q
 
       old : Gone s x ⊎ AsBefore W s x → ⊥
-      old (inl (m, mem, eq)) = to-nonzero free0 m mem (let a : 2 * m.to ≡ 0 = sym (I.moved m mem).planted ∙ ap (at s.heap) (sym eq) ∙ z in omega arith)
+      old (inl (m, mem, eq)) = to_nonzero free0 m mem (let a : 2 * m.to ≡ 0 = sym (I.moved m mem).planted ∙ ap (at s.heap) (sym eq) ∙ z in omega arith)
       old (inr f) = let a : at s.heap x ≡ at W.heap x = simp add-zero at (f 0 (some_words W x ob)) in omega (arith, W.odd x ob, z)
 
       new : Standing W s x x → ⊥

@@ -8,8 +8,8 @@ use Rattle.std.proofs.Math.ListN.{get_or-append}
 use Rattle.std.proofs.Math.Seq.{get_or-append_seam}
 use Rattle.rules.specs.Ranges.{at}
 use Rattle.rules.specs.Demands.{Once}
-use Rattle.laws.specs.Words.{in-range}
-use Rattle.theory.specs.Sums.{mem-at, places-distinct, below_length}
+use Rattle.laws.specs.Words.{in_range}
+use Rattle.theory.specs.Sums.{mem_at, places_distinct, below_length}
 
 pub record Queued (new : ℕ) (labels queue : List ℕ) : Type 0 where
   pub all : (g : ℕ) → at labels g ≡ new → (j : ℕ) × (j < length queue) × (at queue j ≡ g)
@@ -55,14 +55,14 @@ join new labels queue g inside ne Q = record {
     ol j (yes a) h = rw (before j a) (get_or-set_other labels g (at queue j) new 0 (apart j a) ∙ Q.only j a)
     ol j (no a) h = rw (last j a h) (get_or-set_same labels g new 0 inside)
 
-pub queue-short : (new : ℕ) (labels queue : List ℕ) → new ≢ 0 → Queued new labels queue → length queue ≤ length labels
-queue-short new labels queue nz Q = below_length queue (length labels) (places-distinct queue Q.once) sub
+pub queue_short : (new : ℕ) (labels queue : List ℕ) → new ≢ 0 → Queued new labels queue → length queue ≤ length labels
+queue_short new labels queue nz Q = below_length queue (length labels) (places_distinct queue Q.once) sub
   where
     sub : (z : ℕ) → Memᴰ z queue → z < length labels
-    sub z m = let (j, a, b) = mem-at queue z m in in-range labels z (λ e. nz (sym (Q.only j a) ∙ ap (at labels) b ∙ e))
+    sub z m = let (j, a, b) = mem_at queue z m in in_range labels z (λ e. nz (sym (Q.only j a) ∙ ap (at labels) b ∙ e))
 
 -- a page that is not in it can still join
-pub queue-room : (new : ℕ) (labels queue : List ℕ) (g : ℕ) → new ≢ 0 → g < length labels → at labels g ≢ new → Queued new labels queue → length queue < length labels
-queue-room new labels queue g nz inside ne Q =
-    let h : length (queue ++ (g ∷ [])) ≤ length (set labels g new) = queue-short new (set labels g new) (queue ++ (g ∷ [])) nz (join new labels queue g inside ne Q) in
+pub queue_room : (new : ℕ) (labels queue : List ℕ) (g : ℕ) → new ≢ 0 → g < length labels → at labels g ≢ new → Queued new labels queue → length queue < length labels
+queue_room new labels queue g nz inside ne Q =
+    let h : length (queue ++ (g ∷ [])) ≤ length (set labels g new) = queue_short new (set labels g new) (queue ++ (g ∷ [])) nz (join new labels queue g inside ne Q) in
     omega (arith, simp (length-append, length-set) at h)

@@ -12,13 +12,13 @@ use native.Mathlib.Omega.{arith}
 use Rattle.std.proofs.Math.Dec.{leb}
 use borrow.Author.Tests.{leb-true, leb-false}
 use Rattle.rules.specs.Ranges.{at}
-use Rattle.rules.specs.Pages.{lowestFree}
-use Rattle.rules.specs.Collection.{Move, Pages, State, onPages, takePage, withRoom, top, put}
-use Rattle.laws.specs.Pages.{first-on-page}
+use Rattle.rules.specs.Pages.{lowest_free}
+use Rattle.rules.specs.Collection.{Move, Pages, State, on_pages, take_page, with_room, top, put}
+use Rattle.laws.specs.Pages.{first_on_page}
 use Rattle.laws.specs.FreePages.{Lowest, none_below}
 use Rattle.theory.specs.World.{page_of, size_at, World, Inv}
-use Rattle.theory.specs.Put.{Ready, top-page, mem-split, mem_up, mem-new}
-use Rattle.theory.specs.Forward.{Due, Avail, room_for, copied, open-room}
+use Rattle.theory.specs.Put.{Ready, top_page, mem_split, mem_up, mem_new}
+use Rattle.theory.specs.Forward.{Due, Avail, room_for, copied, open_room}
 use Rattle.theory.specs.Upward.{Upward, take_past}
 
 -- page h comes next behind page g of those that were free
@@ -42,22 +42,22 @@ pub record Stacked (W : World) (s : State) : Type 0 where
   pub begins : (g h : ℕ) → NextFree W g h → h ≤ s.pages.copy → (k : Move) → Memᴰ k s.moves → k.to ≡ h * W.plan.page
       → EndsLate W s g (size_at W k.from)
 
-pub stacked-none : (W : World) (s : State) → s.pages.copy ≡ 0 → Stacked W s
-stacked-none W s e = record { last = λ n. absurd (n e); begins = λ g h N le. absurd (omega (arith, N.less)) }
+pub stacked_none : (W : World) (s : State) → s.pages.copy ≡ 0 → Stacked W s
+stacked_none W s e = record { last = λ n. absurd (n e); begins = λ g h N le. absurd (omega (arith, N.less)) }
 
 -- nothing was copied
-pub stacked-same : (W : World) (s t : State) → t.moves ≡ s.moves → t.pages.copy ≡ s.pages.copy → t.pages.fill ≡ s.pages.fill
+pub stacked_same : (W : World) (s t : State) → t.moves ≡ s.moves → t.pages.copy ≡ s.pages.copy → t.pages.fill ≡ s.pages.fill
     → Stacked W s → Stacked W t
 unfolding top
-stacked-same W s t moves copy fill S = record {
+stacked_same W s t moves copy fill S = record {
   last = λ n.
       let (j, mem, pg, end) = S.last (λ e. n (copy ∙ e)) in
-      (j, subst (Memᴰ j) (sym moves) mem, pg ∙ sym copy, end ∙ sym same-top);
+      (j, subst (Memᴰ j) (sym moves) mem, pg ∙ sym copy, end ∙ sym same_top);
   begins = λ g h N le k mem e. up (S.begins g h N (rw copy at le) k (subst (Memᴰ k) moves mem) e);
 }
   where
-    same-top : top W.plan t.pages ≡ top W.plan s.pages
-    same-top = omega (arith, ap (λ (i : ℕ). i * W.plan.page) copy)
+    same_top : top W.plan t.pages ≡ top W.plan s.pages
+    same_top = omega (arith, ap (λ (i : ℕ). i * W.plan.page) copy)
 
     up : {g n : ℕ} → EndsLate W s g n → EndsLate W t g n
     up l = record { move = l.move; listed = subst (Memᴰ l.move) (sym moves) l.listed; page = l.page; late = l.late }
@@ -73,7 +73,7 @@ module _ (W : World) (s : State) (I : Inv W s) (U : Upward W s.pages) (S : Stack
   t' = copied W s x
 
   R : Ready W t x
-  R = (open-room W s I x D av).ready
+  R = (open_room W s I x D av).ready
 
   abbrev new : Move
   new = record { from = x; to = top W.plan t.pages }
@@ -82,13 +82,13 @@ module _ (W : World) (s : State) (I : Inv W s) (U : Upward W s.pages) (S : Stack
   up e = record { move = e.move; listed = mem_up W t x R e.move e.listed; page = e.page; late = e.late }
 
   -- the copy page is as it was, with room; or it is the lowest free page, since there was none
-  room : (t.pages ≡ s.pages) ⊎ ((t.pages ≡ takePage W.plan s.pages) × (W.plan.page < s.pages.fill + size_at W x))
-  unfolding withRoom
+  room : (t.pages ≡ s.pages) ⊎ ((t.pages ≡ take_page W.plan s.pages) × (W.plan.page < s.pages.fill + size_at W x))
+  unfolding with_room
   room = go (leb (s.pages.fill + size_at W x) W.plan.page) refl
     where
       go : (b : Bool) → leb (s.pages.fill + size_at W x) W.plan.page ≡ b
-          → (cond b s.pages (takePage W.plan s.pages) ≡ s.pages)
-          ⊎ ((cond b s.pages (takePage W.plan s.pages) ≡ takePage W.plan s.pages) × (W.plan.page < s.pages.fill + size_at W x))
+          → (cond b s.pages (take_page W.plan s.pages) ≡ s.pages)
+          ⊎ ((cond b s.pages (take_page W.plan s.pages) ≡ take_page W.plan s.pages) × (W.plan.page < s.pages.fill + size_at W x))
       go true e = inl refl
       go false e = inr (refl, leb-false _ _ e)
 
@@ -98,10 +98,10 @@ module _ (W : World) (s : State) (I : Inv W s) (U : Upward W s.pages) (S : Stack
     L = av.page lt
 
     abbrev low : ℕ
-    low = lowestFree s.pages.labels W.plan.lo W.plan.hi
+    low = lowest_free s.pages.labels W.plan.lo W.plan.hi
 
-    before-low : (g : ℕ) → NextFree W g low → g ≡ s.pages.copy
-    before-low g N = omega (arith, not_behind, not-before)
+    before_low : (g : ℕ) → NextFree W g low → g ≡ s.pages.copy
+    before_low g N = omega (arith, not_behind, not_before)
       where
         not_behind : g ≤ s.pages.copy
         not_behind = go (dec_lt s.pages.copy g)
@@ -111,34 +111,34 @@ module _ (W : World) (s : State) (I : Inv W s) (U : Upward W s.pages) (S : Stack
             go (yes l) = absurd (none_below s.pages.labels W.plan.lo W.plan.hi g N.low (omega (arith, N.less, L.high)) N.less
                 (U.behind g l N.free))
 
-        not-before : s.pages.copy ≤ g
-        not-before = go (dec_lt g s.pages.copy)
+        not_before : s.pages.copy ≤ g
+        not_before = go (dec_lt g s.pages.copy)
           where
             go : Dec (g < s.pages.copy) → s.pages.copy ≤ g
             go (no n) = omega arith
-            go (yes l) = absurd (N.none s.pages.copy l (take_past W s I av.unkept L U) I.copyFresh)
+            go (yes l) = absurd (N.none s.pages.copy l (take_past W s I av.unkept L U) I.copy_fresh)
 
-    ends-late : (g : ℕ) → NextFree W g low → EndsLate W t' g (size_at W x)
+    ends_late : (g : ℕ) → NextFree W g low → EndsLate W t' g (size_at W x)
     unfolding top
-    ends-late g N =
-        let e : g ≡ s.pages.copy = before-low g N in
+    ends_late g N =
+        let e : g ≡ s.pages.copy = before_low g N in
         let (j, mem, pg, end) = S.last (omega (arith, N.low, W.low)) in
         let same : g * W.plan.page ≡ s.pages.copy * W.plan.page = ap (λ (i : ℕ). i * W.plan.page) e in
         record { move = j; listed = mem_up W t x R j mem; page = pg ∙ sym e; late = omega arith }
 
-  pub copy-stacked : Stacked W t'
+  pub copy_stacked : Stacked W t'
   unfolding put
-  copy-stacked = record { last = λ n. (new, mem-new W t x R, top-page W t x R, ends); begins = begins }
+  copy_stacked = record { last = λ n. (new, mem_new W t x R, top_page W t x R, ends); begins = begins }
     where
       ends : top W.plan t.pages + size_at W x ≡ top W.plan t'.pages
       ends = unfold top in omega arith
 
       begins : (g h : ℕ) → NextFree W g h → h ≤ t.pages.copy → (k : Move) → Memᴰ k t'.moves → k.to ≡ h * W.plan.page
           → EndsLate W t' g (size_at W k.from)
-      begins g h N le k mem e = go (mem-split W t x R k mem)
+      begins g h N le k mem e = go (mem_split W t x R k mem)
         where
           page : page_of W k.to ≡ h
-          page = ap (page_of W) e ∙ first-on-page W.pos h
+          page = ap (page_of W) e ∙ first_on_page W.pos h
 
           to : k ≡ new → k.to ≡ top W.plan t.pages
           to q = ap (λ (j : Move). j.to) q
@@ -149,16 +149,16 @@ module _ (W : World) (s : State) (I : Inv W s) (U : Upward W s.pages) (S : Stack
               let M = I.moved k old in
               absurd (W.new≢0 (sym M.label ∙ ap (at s.pages.labels) page ∙ U.behind h l (ap (at W.labels) (sym page) ∙ M.fresh)))
 
-          newest : k ≡ new → (t.pages ≡ s.pages) ⊎ ((t.pages ≡ takePage W.plan s.pages) × (W.plan.page < s.pages.fill + size_at W x))
+          newest : k ≡ new → (t.pages ≡ s.pages) ⊎ ((t.pages ≡ take_page W.plan s.pages) × (W.plan.page < s.pages.fill + size_at W x))
               → EndsLate W t' g (size_at W k.from)
           newest q (inl same) =
               let at_top : h * W.plan.page ≡ s.pages.copy * W.plan.page + s.pages.fill = sym e ∙ to q ∙ unfold top in ap (λ (p : Pages). top W.plan p) same in
               let below : h ≤ s.pages.copy = rw (ap (λ (p : Pages). p.copy) same) at le in
               absurd (omega (arith, mul-le-mul_right W.plan.page below))
           newest q (inr (taken, lt)) =
-              let at_top : h * W.plan.page ≡ low lt * W.plan.page = sym e ∙ to q ∙ unfold top takePage in (ap (λ (p : Pages). top W.plan p) taken ∙ omega arith) in
-              let here : h ≡ low lt = sym (first-on-page W.pos h) ∙ ap (page_of W) at_top ∙ first-on-page W.pos (low lt) in
-              let late : EndsLate W t' g (size_at W x) = ends-late lt g (subst (NextFree W g) here N) in
+              let at_top : h * W.plan.page ≡ low lt * W.plan.page = sym e ∙ to q ∙ unfold top take_page in (ap (λ (p : Pages). top W.plan p) taken ∙ omega arith) in
+              let here : h ≡ low lt = sym (first_on_page W.pos h) ∙ ap (page_of W) at_top ∙ first_on_page W.pos (low lt) in
+              let late : EndsLate W t' g (size_at W x) = ends_late lt g (subst (NextFree W g) here N) in
               subst (λ (y : ℕ). EndsLate W t' g (size_at W y)) (sym (ap (λ (j : Move). j.from) q)) late
 
           go : Memᴰ k s.moves ⊎ (k ≡ new) → EndsLate W t' g (size_at W k.from)

@@ -5,8 +5,8 @@ use Rattle.std.specs.Prelude.{◌≡◌, ◌≢◌, ◌⊎◌, true, ℕ, ◌+�
 use Rattle.std.proofs.Common.{sym, ap, ◌∙◌, subst, inl, inr}
 use mathlib.Core.List.{List, Memᴰ}
 use Rattle.rules.specs.Ranges.{at, sum}
-use Rattle.rules.specs.Header.{refsOf}
-use Rattle.rules.specs.Collection.{Move, Plan, State, top, keptPages}
+use Rattle.rules.specs.Header.{refs_of}
+use Rattle.rules.specs.Collection.{Move, Plan, State, top, kept_pages}
 use Rattle.rules.specs.Demands.{Becomes}
 use Rattle.laws.specs.Walk.{size}
 
@@ -14,7 +14,7 @@ use Rattle.laws.specs.Walk.{size}
 pub data Live (h : List ℕ) (Obj Root Stay Via : ℕ → Type 0) : ℕ → Type 0 where
   root : {x : ℕ} → Root x → Live h Obj Root Stay Via x
   stay : {x : ℕ} → Stay x → Live h Obj Root Stay Via x
-  ref : {x : ℕ} (z i : ℕ) → Live h Obj Root Stay Via z → Via z → 0 < i → i ≤ refsOf (at h z) → x ≡ at h (z + i)
+  ref : {x : ℕ} (z i : ℕ) → Live h Obj Root Stay Via z → Via z → 0 < i → i ≤ refs_of (at h z) → x ≡ at h (z + i)
       → Obj x → Live h Obj Root Stay Via x
 
 pub live_map : {h : List ℕ} {Obj Root Stay Stay' Via Via' : ℕ → Type 0} → ((x : ℕ) → Stay x → Stay' x)
@@ -39,18 +39,18 @@ pub record World : Type 1 where
   pub old≢0 : plan.old ≢ 0
   pub new≢0 : plan.new ≢ 0
   pub new≢old : plan.new ≢ plan.old
-  pub heapLength : length heap ≡ length labels * plan.page
+  pub heap_length : length heap ≡ length labels * plan.page
   pub small : length heap ≤ 4194304
   pub few : length labels ≤ 4096
   -- objects: each on a page in use, which it fits, with a header; apart from each other
   pub kind : (x : ℕ) → Obj x → (at labels (x / plan.page) ≡ plan.old) ⊎ (at labels (x / plan.page) ≡ plan.new)
   pub fits : (x : ℕ) → Obj x → x % plan.page + size heap x ≤ plan.page
-  pub shape : (x : ℕ) → Obj x → refsOf (at heap x) < size heap x
+  pub shape : (x : ℕ) → Obj x → refs_of (at heap x) < size heap x
   pub odd : (x : ℕ) → Obj x → at heap x % 2 ≡ 1
   pub inside : (x : ℕ) → Obj x → x + size heap x ≤ length heap
   pub apart : (x y : ℕ) → Obj x → Obj y → x < y → x + size heap x ≤ y
   pub nonzero : (x : ℕ) → Obj x → x ≢ 0
-  pub references : (x i : ℕ) → Obj x → 0 < i → i ≤ refsOf (at heap x) → (at heap (x + i) ≡ 0) ⊎ Obj (at heap (x + i))
+  pub references : (x i : ℕ) → Obj x → 0 < i → i ≤ refs_of (at heap x) → (at heap (x + i) ≡ 0) ⊎ Obj (at heap (x + i))
   -- the objects that may have to be copied, all of those on pages that no hint names; and how many pages were hinted
   pub olds : List ℕ
   pub all : (x : ℕ) → Obj x → at labels (x / plan.page) ≡ plan.old → Memᴰ x olds
@@ -61,8 +61,8 @@ pub record World : Type 1 where
 abbrev pub page_of : World → ℕ → ℕ
 page_of W a = a / W.plan.page
 
-abbrev pub labelWas : World → ℕ → ℕ
-labelWas W a = at W.labels (a / W.plan.page)
+abbrev pub label_was : World → ℕ → ℕ
+label_was W a = at W.labels (a / W.plan.page)
 
 abbrev pub label_of : World → State → ℕ → ℕ
 label_of W s a = at s.pages.labels (a / W.plan.page)
@@ -71,8 +71,8 @@ label_of W s a = at s.pages.labels (a / W.plan.page)
 abbrev pub size_at : World → ℕ → ℕ
 size_at W x = size W.heap x
 
-abbrev pub refsAt : World → ℕ → ℕ
-refsAt W x = refsOf (at W.heap x)
+abbrev pub refs_at : World → ℕ → ℕ
+refs_at W x = refs_of (at W.heap x)
 
 -- ---- which object stands where
 
@@ -90,7 +90,7 @@ AsBefore W s x = (i : ℕ) → i < size_at W x → at s.heap (x + i) ≡ at W.he
 pub record Stays (W : World) (s : State) (x : ℕ) : Type 0 where
   pub object : W.Obj x
   pub label : label_of W s x ≡ W.plan.new
-  pub notGone : NotGone s x
+  pub not_gone : NotGone s x
 
 -- it is retained so far: it stays, or was copied
 abbrev pub Retained : World → State → ℕ → Type 0
@@ -105,14 +105,14 @@ abbrev pub MovesUp : State → State → Type 0
 MovesUp s t = (m : Move) → Memᴰ m s.moves → Memᴰ m t.moves
 
 -- what stays, or else was copied, by one reading and by another
-pub or-gone : (s t : State) {Stay Stay' : ℕ → Type 0} → ((x : ℕ) → Stay x → Stay' x) → MovesUp s t → (x : ℕ)
+pub or_gone : (s t : State) {Stay Stay' : ℕ → Type 0} → ((x : ℕ) → Stay x → Stay' x) → MovesUp s t → (x : ℕ)
     → Stay x ⊎ Gone s x → Stay' x ⊎ Gone t x
-or-gone s t f up x (inl q) = inl (f x q)
-or-gone s t f up x (inr (m, mem, e)) = inr (m, up m mem, e)
+or_gone s t f up x (inl q) = inl (f x q)
+or_gone s t f up x (inr (m, mem, e)) = inr (m, up m mem, e)
 
-pub reach-up : (W : World) (s t : State) → ((x : ℕ) → Stays W s x → Stays W t x) → MovesUp s t → {x : ℕ}
+pub reach_up : (W : World) (s t : State) → ((x : ℕ) → Stays W s x → Stays W t x) → MovesUp s t → {x : ℕ}
     → Reach W s x → Reach W t x
-reach-up W s t f up = live_map f (or-gone s t f up)
+reach_up W s t f up = live_map f (or_gone s t f up)
 
 -- the pairing so far: the object at x before is retained, and stands at y
 pub data Kept (W : World) (s : State) (x y : ℕ) : Type 0 where
@@ -124,14 +124,14 @@ pub data Place (W : World) (s : State) (x y : ℕ) : Type 0 where
   home : W.Obj x → y ≡ x → Place W s x y
   away : (m : Move) → Memᴰ m s.moves → x ≡ m.from → y ≡ m.to → Place W s x y
 
-pub kept-place : (W : World) (s : State) {x y : ℕ} → Kept W s x y → Place W s x y
-kept-place W s (stayed q e) = home q.object e
-kept-place W s (went m mem ex ey) = away m mem ex ey
+pub kept_place : (W : World) (s : State) {x y : ℕ} → Kept W s x y → Place W s x y
+kept_place W s (stayed q e) = home q.object e
+kept_place W s (went m mem ex ey) = away m mem ex ey
 
 -- what a reference became, it stays
-pub becomes-map : {A B : ℕ → ℕ → Type 0} → ((x y : ℕ) → A x y → B x y) → (v u : ℕ) → Becomes A v u → Becomes B v u
-becomes-map f v u (inl e) = inl e
-becomes-map f v u (inr k) = inr (f v u k)
+pub becomes_map : {A B : ℕ → ℕ → Type 0} → ((x y : ℕ) → A x y → B x y) → (v u : ℕ) → Becomes A v u → Becomes B v u
+becomes_map f v u (inl e) = inl e
+becomes_map f v u (inr k) = inr (f v u k)
 
 -- reference i of the retained object x, which stands at y, is forwarded
 abbrev pub Swept : World → State → ℕ → ℕ → ℕ → Type 0
@@ -153,9 +153,9 @@ pub record Region (W : World) (s : State) (w : ℕ) : Type 0 where
 pub record Moved (W : World) (s : State) (m : Move) : Type 0 where
   pub object : W.Obj m.from
   pub reached : Reach W s m.from
-  pub old : labelWas W m.from ≡ W.plan.old
+  pub old : label_was W m.from ≡ W.plan.old
   pub planted : at s.heap m.from ≡ 2 * m.to
-  pub fresh : labelWas W m.to ≡ 0
+  pub fresh : label_was W m.to ≡ 0
   pub label : label_of W s m.to ≡ W.plan.new
   pub fits : m.to % W.plan.page + size_at W m.from ≤ W.plan.page
   pub below : page_of W m.to ≡ s.pages.copy → m.to + size_at W m.from ≤ top W.plan s.pages
@@ -166,7 +166,7 @@ pub moved_on : (W : World) (s t : State) (m : Move) → Moved W s m → ((x : �
     → label_of W t m.to ≡ W.plan.new → (page_of W m.to ≡ t.pages.copy → m.to + size_at W m.from ≤ top W.plan t.pages) → Moved W t m
 moved_on W s t m M stays up planted label below = record {
   object = M.object;
-  reached = reach-up W s t stays up M.reached;
+  reached = reach_up W s t stays up M.reached;
   old = M.old;
   planted = planted;
   fresh = M.fresh;
@@ -177,7 +177,7 @@ moved_on W s t m M stays up planted label below = record {
 
 -- page g is kept for want of room
 pub record KeptPage (W : World) (s : State) (g : ℕ) : Type 0 where
-  pub listed : Memᴰ g (keptPages s.pages)
+  pub listed : Memᴰ g (kept_pages s.pages)
   pub old : at W.labels g ≡ W.plan.old
   pub label : at s.pages.labels g ≡ W.plan.new
 
@@ -186,30 +186,30 @@ abbrev pub LabelledOrKept : World → State → ℕ → Type 0
 LabelledOrKept W s g = (at s.pages.labels g ≡ at W.labels g) ⊎ KeptPage W s g
 
 -- both stay where labels and kept pages do
-module _ (W : World) (s t : State) (labels : t.pages.labels ≡ s.pages.labels) (pages : keptPages t.pages ≡ keptPages s.pages) where
+module _ (W : World) (s t : State) (labels : t.pages.labels ≡ s.pages.labels) (pages : kept_pages t.pages ≡ kept_pages s.pages) where
   pub kept_same : (g : ℕ) → KeptPage W s g → KeptPage W t g
   kept_same g k = record { listed = subst (Memᴰ g) (sym pages) k.listed; old = k.old; label = ap (λ (l : List ℕ). at l g) labels ∙ k.label }
 
-  pub labelled-same : (g : ℕ) → LabelledOrKept W s g → LabelledOrKept W t g
-  labelled-same g (inl e) = inl (ap (λ (l : List ℕ). at l g) labels ∙ e)
-  labelled-same g (inr k) = inr (kept_same g k)
+  pub labelled_same : (g : ℕ) → LabelledOrKept W s g → LabelledOrKept W t g
+  labelled_same g (inl e) = inl (ap (λ (l : List ℕ). at l g) labels ∙ e)
+  labelled_same g (inr k) = inr (kept_same g k)
 
 pub record Inv (W : World) (s : State) : Type 0 where
-  pub heapLength : length s.heap ≡ length W.heap
-  pub labelsLength : length s.pages.labels ≡ length W.labels
+  pub heap_length : length s.heap ≡ length W.heap
+  pub labels_length : length s.pages.labels ≡ length W.labels
   -- pages in use keep their labels, or are kept; a free page stays free or is taken
   pub used : (g : ℕ) → at W.labels g ≢ 0 → LabelledOrKept W s g
-  pub kept : (g : ℕ) → Memᴰ g (keptPages s.pages) → KeptPage W s g
+  pub kept : (g : ℕ) → Memᴰ g (kept_pages s.pages) → KeptPage W s g
   pub free : (g : ℕ) → at W.labels g ≡ 0 → (at s.pages.labels g ≡ 0) ⊎ (at s.pages.labels g ≡ W.plan.new)
   -- the copy page was free, and has the new label where there is room on it
-  pub copyFresh : at W.labels s.pages.copy ≡ 0
-  pub copyLabel : s.pages.fill < W.plan.page → at s.pages.labels s.pages.copy ≡ W.plan.new
-  pub fillWithin : s.pages.fill ≤ W.plan.page
+  pub copy_fresh : at W.labels s.pages.copy ≡ 0
+  pub copy_label : s.pages.fill < W.plan.page → at s.pages.labels s.pages.copy ≡ W.plan.new
+  pub fill_within : s.pages.fill ≤ W.plan.page
   -- objects on pages with the old label: copied, or as they were
   pub moved : (m : Move) → Memᴰ m s.moves → Moved W s m
   pub unmoved : (x : ℕ) → W.Obj x → label_of W s x ≡ W.plan.old → Gone s x ⊎ AsBefore W s x
   -- retained objects: header and data words as they were; each reference as it was, or forwarded
   pub header : (x y : ℕ) → Kept W s x y → at s.heap y ≡ at W.heap x
-  pub dataWords : (x y i : ℕ) → Kept W s x y → refsAt W x < i → i < size_at W x → at s.heap (y + i) ≡ at W.heap (x + i)
-  pub references : (x y i : ℕ) → Kept W s x y → 0 < i → i ≤ refsAt W x → (at s.heap (y + i) ≡ at W.heap (x + i)) ⊎ Swept W s x y i
-  pub copiesApart : (m k : Move) → Memᴰ m s.moves → Memᴰ k s.moves → MovesApart W m k
+  pub data_words : (x y i : ℕ) → Kept W s x y → refs_at W x < i → i < size_at W x → at s.heap (y + i) ≡ at W.heap (x + i)
+  pub references : (x y i : ℕ) → Kept W s x y → 0 < i → i ≤ refs_at W x → (at s.heap (y + i) ≡ at W.heap (x + i)) ⊎ Swept W s x y i
+  pub copies_apart : (m k : Move) → Memᴰ m s.moves → Memᴰ k s.moves → MovesApart W m k

@@ -1,7 +1,7 @@
 -- `copies::copy_object` meets its contract. Its copy lies in the heap, apart from it. Assumes nothing.
 use native.Mathlib.Omega.{arith}
 use lib.ListN.{length}
-use Rattle.copies.proofs.Copying.{Room, copy_is, copy-fits, tied-copied}
+use Rattle.copies.proofs.Copying.{Room, copy_is, copy_fits, tied_copied}
 use borrow.Author.Rules.{rules}
 use Rattle.copies.proofs.copy_object.Statement.{statement}
 use Rattle.copies.proofs.copy_object.Tie as tie
@@ -13,7 +13,7 @@ room : (c : tie.After-with-room) →
 room c =
     let args = c.before.before.before.before.before.before.before.before.args in
     let type_size = c.before.before.before.type_size in
-    copy-fits args.k args.address type_size.result args.heap.now args.labels.now args.links.now c.with-room.new.0 c.with-room.new.1.0 args.start c.with-room.result type_size.ensures.0 c.with-room.ensures.0 c.with-room.ensures.1.1 c.before.before.before.before.before.before.before.before.requires.0
+    copy_fits args.k args.address type_size.result args.heap.now args.labels.now args.links.now c.with-room.new.0 c.with-room.new.1.0 args.start c.with-room.result type_size.ensures.0 c.with-room.ensures.0 c.with-room.ensures.1.1 c.before.before.before.before.before.before.before.before.requires.0
 
 mul-size-of : tie.Need-overflow-mul-size-of
 mul-size-of c = search rules
@@ -87,7 +87,7 @@ returns c =
     let with-room = c.before.before.before.before.before.before.before.before.before.before.before.before.with-room in
     rw (c.copied.ensures, c.before.before.before.copy-words.ensures) (
       copy_is args.k args.address type_size.result args.heap.now args.labels.now args.links.now with-room.new.0 with-room.new.1.0 args.start with-room.result type_size.ensures.0 with-room.ensures.0 with-room.ensures.1.1,
-      tied-copied _ _ _ _ _ with-room.ensures.1.0,
+      tied_copied _ _ _ _ _ with-room.ensures.1.0,
     )
 
 pub copy-object-spec : {M : Type 1} → statement M

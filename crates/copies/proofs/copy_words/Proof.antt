@@ -1,5 +1,5 @@
 -- `copies::copy_words` meets its contract. The loop's invariant: the first i words are copied; the part they come from is as it was. Assumes nothing.
-use Rattle.copies.proofs.Copying.{Copying, copying-turn, copying-end}
+use Rattle.copies.proofs.Copying.{Copying, copying_turn, copying_end}
 use native.Mathlib.Omega.{arith}
 use Prim.Native.Nat.{◌-◌}
 use mathlib.Core.Path.{◌≡◌, refl}
@@ -45,7 +45,7 @@ loop-again : tie.Need-loop-preserved invariant-loop decreases-loop
 loop-again c =
     let pre = c.before.before.before.requires in
     let loop = c.before.before.loop in
-    (copying-turn _ _ _ _ pre.0.0 pre.1 _ _ loop.invariant.0 c.before.loop-test.true, rw length-set loop.invariant.1)
+    (copying_turn _ _ _ _ pre.0.0 pre.1 _ _ loop.invariant.0 c.before.loop-test.true, rw length-set loop.invariant.1)
 
 same_length : tie.Need-same-length invariant-loop decreases-loop
 same_length c = c.before.loop.invariant.1
@@ -53,7 +53,7 @@ same_length c = c.before.loop.invariant.1
 returns : tie.Need-returns invariant-loop decreases-loop
 returns c =
     let pre = c.before.before.requires in
-    copying-end _ _ _ _ pre.0.0 pre.1 _ _ c.before.loop.invariant.0 c.loop-test.false
+    copying_end _ _ _ _ pre.0.0 pre.1 _ _ c.before.loop.invariant.0 c.loop-test.false
 
 pub copy-words-spec : {M : Type 1} → statement M
 copy-words-spec =

@@ -4,10 +4,10 @@ use Prim.Native.Nat.{ℕ}
 use native.Mathlib.Omega.{arith}
 use Rattle.rules.specs.Ranges.{at}
 use Rattle.rules.specs.Header.{size_of}
-use Rattle.rules.specs.Collection.{canCopy}
+use Rattle.rules.specs.Collection.{can_copy}
 use Rattle.hints.specs.Code.{plan}
-use Rattle.copies.specs.Code.{pagesOf, state_of}
-use Rattle.copies.proofs.Copying.{forward-nil, forward-copied, forward-stays, forward-copies, forward-keeps}
+use Rattle.copies.specs.Code.{pages_of, state_of}
+use Rattle.copies.proofs.Copying.{forward_nil, forward_copied, forward_stays, forward_copies, forward_keeps}
 use borrow.Author.Rules.{rules}
 use Rattle.copies.proofs.forward.Statement.{statement}
 use Rattle.copies.proofs.forward.Tie as tie
@@ -15,15 +15,15 @@ use Rattle.copies.proofs.forward.Tie as tie
 -- the answer is the definition's
 can : (c : tie.After-can-copy) →
     let args = c.before.before.before.before.before.before.before.before.before.before.before.before.before.args in
-    canCopy (plan args.k) (size_of (at args.heap.now args.value)) (pagesOf args.labels.now args.links.now args.gather) ≡ c.can-copy.result
+    can_copy (plan args.k) (size_of (at args.heap.now args.value)) (pages_of args.labels.now args.links.now args.gather) ≡ c.can-copy.result
 can c =
     let args = c.before.before.before.before.before.before.before.before.before.before.before.before.before.args in
-    ap (λ (n : ℕ). canCopy (plan args.k) n (pagesOf args.labels.now args.links.now args.gather)) (sym c.before.type_size.ensures.0) ∙ sym (c.can-copy.ensures args.links.now)
+    ap (λ (n : ℕ). can_copy (plan args.k) n (pages_of args.labels.now args.links.now args.gather)) (sym c.before.type_size.ensures.0) ∙ sym (c.can-copy.ensures args.links.now)
 
 returns : tie.Need-returns
 returns c =
     let args = c.before.before.before.before.args in
-    (forward-nil _ _ (state_of args.heap.now args.labels.now args.links.now args.gather) c.if1.true, c.before.before.before.before.requires.1)
+    (forward_nil _ _ (state_of args.heap.now args.labels.now args.links.now args.gather) c.if1.true, c.before.before.before.before.requires.1)
 
 mul-word : tie.Need-overflow-mul-word
 mul-word c =
@@ -36,7 +36,7 @@ slice-read-word c = c.before.before.before.before.before.requires.0.within c.bef
 returns-2 : tie.Need-returns-2
 returns-2 c =
     let args = c.before.before.before.before.before.before.args in
-    (forward-copied _ _ (state_of args.heap.now args.labels.now args.links.now args.gather) c.before.before.if1.false c.if2.true, c.before.before.before.before.before.before.requires.1)
+    (forward_copied _ _ (state_of args.heap.now args.labels.now args.links.now args.gather) c.before.before.if1.false c.if2.true, c.before.before.before.before.before.before.requires.1)
 
 div-page : tie.Need-nonzero-div-page
 div-page c = search rules
@@ -53,7 +53,7 @@ slice-read-if3 c = c.before.before.before.before.before.before.before.before.req
 returns-3 : tie.Need-returns-3
 returns-3 c =
     let args = c.before.before.before.before.before.before.before.before.before.before.args in
-    (forward-stays _ _ (state_of args.heap.now args.labels.now args.links.now args.gather) c.before.before.before.before.before.before.if1.false c.before.before.before.before.if2.false c.if3.true, c.before.before.before.before.before.before.before.before.before.before.requires.1)
+    (forward_stays _ _ (state_of args.heap.now args.labels.now args.links.now args.gather) c.before.before.before.before.before.before.if1.false c.before.before.before.before.if2.false c.if3.true, c.before.before.before.before.before.before.before.before.before.before.requires.1)
 
 size-of-requires : tie.Need-size-of-requires
 size-of-requires c κs = search rules
@@ -82,7 +82,7 @@ same-length-3 c = search rules
 returns-4 : tie.Need-returns-4
 returns-4 c =
     let copy-object = c.before.before.before.before.before.before.copy-object in
-    (copy-object.ensures.0 ∙ forward-copies _ _ _ c.before.before.before.before.before.before.before.before.before.before.before.before.before.before.before.before.before.before.before.before.if1.false c.before.before.before.before.before.before.before.before.before.before.before.before.before.before.before.before.before.before.if2.false c.before.before.before.before.before.before.before.before.before.before.before.before.before.before.if3.false (can c.before.before.before.before.before.before.before.before.before.before.before ∙ c.before.before.before.before.before.before.before.before.before.before.if4.true), copy-object.ensures.1)
+    (copy-object.ensures.0 ∙ forward_copies _ _ _ c.before.before.before.before.before.before.before.before.before.before.before.before.before.before.before.before.before.before.before.before.if1.false c.before.before.before.before.before.before.before.before.before.before.before.before.before.before.before.before.before.before.if2.false c.before.before.before.before.before.before.before.before.before.before.before.before.before.before.if3.false (can c.before.before.before.before.before.before.before.before.before.before.before ∙ c.before.before.before.before.before.before.before.before.before.before.if4.true), copy-object.ensures.1)
 
 keep-object-requires : tie.Need-keep-object-requires
 keep-object-requires c κs =
@@ -100,7 +100,7 @@ returns-5 : tie.Need-returns-5
 returns-5 c =
     let args = c.before.before.before.before.before.before.before.before.before.before.before.before.before.before.before.before.before.before.before.before.before.args in
     let keep-object = c.before.before.before.before.keep-object in
-    (keep-object.ensures.0 args.heap.now ∙ forward-keeps _ _ _ c.before.before.before.before.before.before.before.before.before.before.before.before.before.before.before.before.before.if1.false c.before.before.before.before.before.before.before.before.before.before.before.before.before.before.before.if2.false c.before.before.before.before.before.before.before.before.before.before.before.if3.false (can c.before.before.before.before.before.before.before.before ∙ c.before.before.before.before.before.before.before.if4.false), keep-object.ensures.1)
+    (keep-object.ensures.0 args.heap.now ∙ forward_keeps _ _ _ c.before.before.before.before.before.before.before.before.before.before.before.before.before.before.before.before.before.if1.false c.before.before.before.before.before.before.before.before.before.before.before.before.before.before.before.if2.false c.before.before.before.before.before.before.before.before.before.before.before.if3.false (can c.before.before.before.before.before.before.before.before ∙ c.before.before.before.before.before.before.before.if4.false), keep-object.ensures.1)
 
 pub forward-spec : {M : Type 1} → statement M
 forward-spec =

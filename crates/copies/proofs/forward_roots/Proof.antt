@@ -3,16 +3,16 @@ use mathlib.Core.Path.{◌≡◌, refl, ◌∙◌}
 use Prim.Native.Nat.{◌-◌}
 use native.Mathlib.Omega.{arith}
 use lib.ListN.{length, length-set}
-use Rattle.rules.specs.Collection.{forwardRoots}
+use Rattle.rules.specs.Collection.{forward_roots}
 use Rattle.hints.specs.Code.{plan}
 use Rattle.copies.specs.Code.{state_of, Tied}
-use Rattle.copies.proofs.Copying.{Rooting, rooting-end, rooting-safe, rooting-turn}
+use Rattle.copies.proofs.Copying.{Rooting, rooting_end, rooting_safe, rooting_turn}
 use borrow.Author.Rules.{rules}
 use Rattle.copies.proofs.forward_roots.Statement.{statement}
 use Rattle.copies.proofs.forward_roots.Tie as tie
 
 abbrev invariant-loop : tie.invariant-loop
-invariant-loop heap₀ labels₀ links₀ k roots₀ g₀ i₀ heap labels links roots g i = (Rooting (plan k) (forwardRoots (plan k) roots₀ (state_of heap₀ labels₀ links₀ g₀)) roots (state_of heap labels links g) i × Tied k labels links g)
+invariant-loop heap₀ labels₀ links₀ k roots₀ g₀ i₀ heap labels links roots g i = (Rooting (plan k) (forward_roots (plan k) roots₀ (state_of heap₀ labels₀ links₀ g₀)) roots (state_of heap labels links g) i × Tied k labels links g)
     × ((length heap ≡ length heap₀) × (length labels ≡ length labels₀) × (length links ≡ length links₀) × (length roots ≡ length roots₀))
 
 abbrev decreases-loop : tie.decreases-loop
@@ -32,7 +32,7 @@ slice-read-value c = search rules
 forward-requires : tie.Need-forward-requires invariant-loop decreases-loop
 forward-requires c κs =
     let loop = c.before.before.before.before.before.loop in
-    (rooting-safe _ _ _ _ _ loop.invariant.0.0 (omega (arith, loop.invariant.1, c.before.before.before.before.loop-test)), loop.invariant.0.1)
+    (rooting_safe _ _ _ _ _ loop.invariant.0.0 (omega (arith, loop.invariant.1, c.before.before.before.before.loop-test)), loop.invariant.0.1)
 
 mul-roots : tie.Need-overflow-mul-roots invariant-loop decreases-loop
 mul-roots c = omega (arith, c.before.before.before.before.before.before.before.before.before.before.before.before.loop.invariant.1, c.before.before.before.before.before.before.before.before.before.before.before.loop-test, c.before.before.before.before.before.before.before.before.before.before.before.before.before.before.before.before.before.well-formed)
@@ -50,7 +50,7 @@ loop-again : tie.Need-loop-preserved invariant-loop decreases-loop
 loop-again c =
     let inv = c.before.before.before.before.before.before.before.before.before.before.before.before.before.loop.invariant in
     let call = c.before.before.before.before.before.before.before.forward in (
-      (rooting-turn _ _ _ _ _ inv.0.0 (omega (arith, inv.1, c.before.before.before.before.before.before.before.before.before.before.before.before.loop-test)) _ _ call.ensures.0, call.ensures.1),
+      (rooting_turn _ _ _ _ _ inv.0.0 (omega (arith, inv.1, c.before.before.before.before.before.before.before.before.before.before.before.before.loop-test)) _ _ call.ensures.0, call.ensures.1),
       (call.auto.0 ∙ inv.1.0, call.auto.1.0 ∙ inv.1.1, call.auto.1.1.0 ∙ inv.1.2, rw length-set inv.1.3),
     )
 
@@ -69,7 +69,7 @@ same-length-4 c = c.before.loop.invariant.1.3
 returns : tie.Need-returns invariant-loop decreases-loop
 returns c =
     let loop = c.before.loop in
-    (rooting-end _ _ _ _ _ loop.invariant.0.0 (omega (arith, loop.invariant.1, c.loop-test)), loop.invariant.0.1)
+    (rooting_end _ _ _ _ _ loop.invariant.0.0 (omega (arith, loop.invariant.1, c.loop-test)), loop.invariant.0.1)
 
 pub forward-roots-spec : {M : Type 1} → statement M
 forward-roots-spec =

@@ -2,14 +2,14 @@
 use Prim.Native.Nat.{◌≤◌, ◌<◌}
 use native.Mathlib.Omega.{arith}
 use lib.ListN.{length}
-use Rattle.copies.proofs.Keeping.{keep-fits, keep-is, keep-tied}
+use Rattle.copies.proofs.Keeping.{keep_fits, keep_is, keep_tied}
 use borrow.Author.Rules.{rules}
 use Rattle.copies.proofs.keep_object.Statement.{statement}
 use Rattle.copies.proofs.keep_object.Tie as tie
 
 -- there is a place in the queue
 fits : (c : tie.Start) → (c.args.start.tail < length c.args.labels.now) × (length c.args.labels.now ≤ 4096) × (c.args.start.kept < 4096)
-fits c = keep-fits c.args.k c.args.labels.now c.args.links.now c.args.start c.args.address c.requires.1.0 c.requires.1.1
+fits c = keep_fits c.args.k c.args.labels.now c.args.links.now c.args.start c.args.address c.requires.1.0 c.requires.1.1
 
 div-join : tie.Need-nonzero-div-join
 div-join c = search rules
@@ -37,8 +37,8 @@ returns c =
     let pre = c.before.before.before.before.before.before.before.before.before.before.before.requires in
     let join = c.before.before.before.before.before.join.ensures in
     rw c.keeping.ensures (
-      keep-is args.k args.labels.now args.links.now args.start args.address pre.1.0 pre.1.1 _ _ join.0.1 join.0.2,
-      keep-tied args.k args.labels.now args.links.now args.start args.address pre.1.0 pre.1.1 _ _ join.0.1 pre.0.1 join.1,
+      keep_is args.k args.labels.now args.links.now args.start args.address pre.1.0 pre.1.1 _ _ join.0.1 join.0.2,
+      keep_tied args.k args.labels.now args.links.now args.start args.address pre.1.0 pre.1.1 _ _ join.0.1 pre.0.1 join.1,
     )
 
 pub keep-object-spec : {M : Type 1} → statement M

@@ -3,7 +3,7 @@ use mathlib.Core.Path.{refl}
 use Prim.Native.Nat.{◌≤◌, ◌<◌}
 use native.Mathlib.Omega.{arith}
 use lib.ListN.{length}
-use Rattle.copies.proofs.Taking.{take-fits, take-is, take_tied}
+use Rattle.copies.proofs.Taking.{take_fits, take_is, take_tied}
 use borrow.Author.Rules.{rules}
 use Rattle.copies.proofs.take_page.Statement.{statement}
 use Rattle.copies.proofs.take_page.Tie as tie
@@ -15,7 +15,7 @@ fits : (c : tie.After-lowest-free) →
 fits c =
     let args = c.before.before.before.before.args in
     let pre = c.before.before.before.before.requires in
-    take-fits args.k args.labels.now args.links.now args.g _ pre.0 pre.1 c.lowest-free.ensures
+    take_fits args.k args.labels.now args.links.now args.g _ pre.0 pre.1 c.lowest-free.ensures
 
 lowest-free-requires : tie.Need-lowest-free-requires
 lowest-free-requires c κs = search rules
@@ -41,7 +41,7 @@ returns c =
     let free = c.before.before.before.before.before.before.before.before.lowest-free.ensures in
     let join = c.before.before.before.before.before.join.ensures in
     let T = take_tied args.k args.labels.now args.links.now args.g _ pre.0 pre.1 free _ _ join.0.1 join.1 in
-    rw c.taken.ensures (take-is args.k args.labels.now args.links.now args.g _ pre.0 pre.1 free _ _ join.0.1 join.0.2, (T, (refl, refl)))
+    rw c.taken.ensures (take_is args.k args.labels.now args.links.now args.g _ pre.0 pre.1 free _ _ join.0.1 join.0.2, (T, (refl, refl)))
 
 pub take-page-spec : {M : Type 1} → statement M
 take-page-spec =

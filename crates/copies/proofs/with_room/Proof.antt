@@ -1,7 +1,7 @@
 -- `copies::with_room` meets its contract. n words fit the copy page, or a page is taken. Assumes nothing.
 use mathlib.Core.Path.{refl, ◌∙◌}
 use native.Mathlib.Omega.{arith}
-use Rattle.copies.proofs.Taking.{room_fits, room-taken}
+use Rattle.copies.proofs.Taking.{room_fits, room_taken}
 use borrow.Author.Rules.{rules}
 use Rattle.copies.proofs.with_room.Statement.{statement}
 use Rattle.copies.proofs.with_room.Tie as tie
@@ -30,7 +30,7 @@ returns-2 : tie.Need-returns-2
 returns-2 c =
     let args = c.before.before.before.before.before.before.before.before.before.before.before.before.args in
     let take-page = c.before.before.before.before.take-page in
-    (take-page.ensures.0 ∙ room-taken args.k _ _ args.links.now args.g (omega (arith, c.before.before.before.before.before.before.before.before.before.before.before.before.requires.0, c.before.before.before.before.before.before.before.if1.false)), take-page.ensures.1)
+    (take-page.ensures.0 ∙ room_taken args.k _ _ args.links.now args.g (omega (arith, c.before.before.before.before.before.before.before.before.before.before.before.before.requires.0, c.before.before.before.before.before.before.before.if1.false)), take-page.ensures.1)
 
 pub with-room-spec : {M : Type 1} → statement M
 with-room-spec =

@@ -6,18 +6,18 @@ use Prim.Native.Nat.{ℕ, ◌+◌, ◌-◌, ◌≤◌}
 use native.Mathlib.Omega.{arith}
 use lib.ListN.{length}
 use Rattle.rules.specs.Ranges.{at}
-use Rattle.rules.specs.Header.{isHeader}
-use Rattle.rules.specs.Collection.{filler, fillPage}
-use Rattle.laws.specs.Headers.{Header, header-says}
-use Rattle.fillers.specs.Places.{LeftBy, left-none, left-on, turns-first}
-use Rattle.laws.specs.Fills.{filledOf}
-use Rattle.fillers.proofs.Filling.{Filling, filling-stop, filling-past, filling-safe, filling-object, filling-place}
+use Rattle.rules.specs.Header.{is_header}
+use Rattle.rules.specs.Collection.{filler, fill_page}
+use Rattle.laws.specs.Headers.{Header, header_says}
+use Rattle.fillers.specs.Places.{LeftBy, left_none, left_on, turns_first}
+use Rattle.laws.specs.Fills.{filled_of}
+use Rattle.fillers.proofs.Filling.{Filling, filling_stop, filling_past, filling_safe, filling_object, filling_place}
 use borrow.Author.Rules.{rules}
 use Rattle.fillers.proofs.fill_page.Statement.{statement}
 use Rattle.fillers.proofs.fill_page.Tie as tie
 
 abbrev invariant-loop : tie.invariant-loop
-invariant-loop heap₀ base n₀ end x₀ heap n x = Filling end (fillPage (end - base) base (end - base) (filledOf heap₀ [])) heap n x × ((x ≤ end) × (base + n ≤ x) × (length heap ≡ length heap₀))
+invariant-loop heap₀ base n₀ end x₀ heap n x = Filling end (fill_page (end - base) base (end - base) (filled_of heap₀ [])) heap n x × ((x ≤ end) × (base + n ≤ x) × (length heap ≡ length heap₀))
 
 abbrev decreases-loop : tie.decreases-loop
 decreases-loop heap₀ base n₀ end x₀ heap n x = end - x
@@ -27,19 +27,19 @@ page : (base P : ℕ) → base + P - base ≡ P
 page base P = omega arith
 
 -- a header stands at x
-on : (c : tie.Then1 invariant-loop decreases-loop) → isHeader (at c.before.before.before.before.loop.heap c.before.before.before.before.loop.x) (c.before.before.before.before.before.before.before.args.base + c.before.before.before.before.before.before.before.args.k.page - c.before.before.before.before.loop.x) ≡ true
+on : (c : tie.Then1 invariant-loop decreases-loop) → is_header (at c.before.before.before.before.loop.heap c.before.before.before.before.loop.x) (c.before.before.before.before.before.before.before.args.base + c.before.before.before.before.before.before.before.args.k.page - c.before.before.before.before.loop.x) ≡ true
 on c = sym c.before.is-header.ensures ∙ c.if1.true
 
 header : (c : tie.Then1 invariant-loop decreases-loop) → Header (at c.before.before.before.before.loop.heap c.before.before.before.before.loop.x) (c.before.before.before.before.before.before.before.args.base + c.before.before.before.before.before.before.before.args.k.page - c.before.before.before.before.loop.x)
-header c = header-says _ _ (on c)
+header c = header_says _ _ (on c)
 
 -- none does
-off : (c : tie.Else1 invariant-loop decreases-loop) → isHeader (at c.before.before.before.before.loop.heap c.before.before.before.before.loop.x) (c.before.before.before.before.before.before.before.args.base + c.before.before.before.before.before.before.before.args.k.page - c.before.before.before.before.loop.x) ≡ false
+off : (c : tie.Else1 invariant-loop decreases-loop) → is_header (at c.before.before.before.before.loop.heap c.before.before.before.before.loop.x) (c.before.before.before.before.before.before.before.args.base + c.before.before.before.before.before.before.before.args.k.page - c.before.before.before.before.loop.x) ≡ false
 off c = sym c.before.is-header.ensures ∙ c.if1.false
 
 -- an object was there
 left : (c : tie.Else2 invariant-loop decreases-loop) → LeftBy c.before.before.before.before.before.before.before.loop.heap (at c.before.before.before.before.before.before.before.loop.heap c.before.before.before.before.before.before.before.loop.x) (c.before.before.before.before.before.before.before.before.before.before.args.base + c.before.before.before.before.before.before.before.before.before.before.args.k.page - c.before.before.before.before.before.before.before.loop.x) c.before.left-size.result
-left c = left-on _ _ _ _ c.before.left-size.ensures (filling-safe _ _ _ _ _ c.before.before.before.before.before.before.before.loop.invariant.0 c.before.before.before.before.before.before.loop-test.true) c.if2.false
+left c = left_on _ _ _ _ c.before.left-size.ensures (filling_safe _ _ _ _ _ c.before.before.before.before.before.before.before.loop.invariant.0 c.before.before.before.before.before.before.loop-test.true) c.if2.false
 
 cast-end : tie.Need-overflow-cast-end invariant-loop decreases-loop
 cast-end c = search rules
@@ -50,7 +50,7 @@ add-end c = omega (arith, c.before.before.requires.0.1, c.before.before.well-for
 loop-holds : tie.Need-loop-init invariant-loop decreases-loop
 loop-holds c =
     rw (page c.before.before.args.base c.before.before.args.k.page)
-    (record { f = c.before.before.args.k.page; room = c.before.before.args.k.page; turns = turns-first c.before.before.args.base c.before.before.args.k.page; places = []; many = refl; same = refl; safe = c.before.before.requires.1 }, (omega arith, omega arith, refl))
+    (record { f = c.before.before.args.k.page; room = c.before.before.args.k.page; turns = turns_first c.before.before.args.base c.before.before.args.k.page; places = []; many = refl; same = refl; safe = c.before.before.requires.1 }, (omega arith, omega arith, refl))
 
 mul-word : tie.Need-overflow-mul-word invariant-loop decreases-loop
 mul-word c = omega (arith, c.before.before.before.before.requires.0.1, c.before.loop.invariant.1, c.loop-test.true, c.before.before.before.before.well-formed)
@@ -77,13 +77,13 @@ loop-again : tie.Need-loop-preserved invariant-loop decreases-loop
 loop-again c =
     let H = header c.before in
     let inv = c.before.before.before.before.before.loop.invariant in
-    (filling-object _ _ _ _ _ inv.0 c.before.before.before.before.loop-test.true _ (on c.before) c.type_size.ensures.0, (omega (arith, H.fits, c.type_size.ensures.0, c.before.before.before.before.loop-test.true), omega (arith, inv.1.1), inv.1.2))
+    (filling_object _ _ _ _ _ inv.0 c.before.before.before.before.loop-test.true _ (on c.before) c.type_size.ensures.0, (omega (arith, H.fits, c.type_size.ensures.0, c.before.before.before.before.loop-test.true), omega (arith, inv.1.1), inv.1.2))
 
 sub-left-size : tie.Need-overflow-sub-left-size invariant-loop decreases-loop
 sub-left-size c = search rules
 
 left-size-requires : tie.Need-left-size-requires invariant-loop decreases-loop
-left-size-requires c κs = filling-safe _ _ _ _ _ c.before.before.before.before.before.loop.invariant.0 c.before.before.before.before.loop-test.true
+left-size-requires c κs = filling_safe _ _ _ _ _ c.before.before.before.before.before.loop.invariant.0 c.before.before.before.before.loop-test.true
 
 same_length : tie.Need-same-length invariant-loop decreases-loop
 same_length c = c.before.before.before.before.before.before.before.loop.invariant.1.2
@@ -91,7 +91,7 @@ same_length c = c.before.before.before.before.before.before.before.loop.invarian
 returns : tie.Need-returns invariant-loop decreases-loop
 returns c =
     let inv = c.before.before.before.before.before.before.before.loop.invariant in (
-      rw (page c.before.before.before.before.before.before.before.before.before.before.args.base c.before.before.before.before.before.before.before.before.before.before.args.k.page) at (filling-stop _ _ _ _ _ inv.0 (off c.before.before.before) (left-none _ _ _ _ c.before.left-size.ensures (filling-safe _ _ _ _ _ inv.0 c.before.before.before.before.before.before.loop-test.true) c.if2.true)),
+      rw (page c.before.before.before.before.before.before.before.before.before.before.args.base c.before.before.before.before.before.before.before.before.before.before.args.k.page) at (filling_stop _ _ _ _ _ inv.0 (off c.before.before.before) (left_none _ _ _ _ c.before.left-size.ensures (filling_safe _ _ _ _ _ inv.0 c.before.before.before.before.before.before.loop-test.true) c.if2.true)),
       omega (arith, inv.1),
     )
 
@@ -120,7 +120,7 @@ unfolding filler
 loop-again-2 c =
     let L = left c.before.before.before.before in
     let inv = c.before.before.before.before.before.before.before.before.before.before.before.loop.invariant in
-    (filling-place _ _ _ _ _ inv.0 c.before.before.before.before.before.before.before.before.before.before.loop-test.true _ (off c.before.before.before.before.before.before.before) L _ c.before.before.put.ensures, (omega (arith, L.fits, c.before.before.before.before.before.before.before.before.before.before.loop-test.true), omega (arith, inv.1.1, L.some), c.before.before.put.auto.0 ∙ inv.1.2))
+    (filling_place _ _ _ _ _ inv.0 c.before.before.before.before.before.before.before.before.before.before.loop-test.true _ (off c.before.before.before.before.before.before.before) L _ c.before.before.put.ensures, (omega (arith, L.fits, c.before.before.before.before.before.before.before.before.before.before.loop-test.true), omega (arith, inv.1.1, L.some), c.before.before.put.auto.0 ∙ inv.1.2))
 
 same-length-2 : tie.Need-same-length-2 invariant-loop decreases-loop
 same-length-2 c = c.before.loop.invariant.1.2
@@ -128,7 +128,7 @@ same-length-2 c = c.before.loop.invariant.1.2
 returns-2 : tie.Need-returns-2 invariant-loop decreases-loop
 returns-2 c =
     let inv = c.before.loop.invariant in
-    (rw (page c.before.before.before.before.args.base c.before.before.before.before.args.k.page) at (filling-past _ _ _ _ _ inv.0 c.loop-test.false), omega (arith, inv.1))
+    (rw (page c.before.before.before.before.args.base c.before.before.before.before.args.k.page) at (filling_past _ _ _ _ _ inv.0 c.loop-test.false), omega (arith, inv.1))
 
 pub fill-page-spec : {M : Type 1} → statement M
 fill-page-spec =

@@ -4,16 +4,16 @@ use mathlib.Core.List.{[]}
 use Prim.Native.Nat.{◌+◌, ◌*◌, ◌-◌, ◌≤◌}
 use native.Mathlib.Omega.{arith}
 use lib.ListN.{length, take, drop}
-use Rattle.rules.specs.Collection.{fillPages}
+use Rattle.rules.specs.Collection.{fill_pages}
 use Rattle.laws.specs.Safe.{SafeFill}
-use Rattle.laws.specs.Fills.{filledOf}
-use Rattle.fillers.proofs.Filling.{Fillings, fillings-end, fillings-safe, fillings-turn}
+use Rattle.laws.specs.Fills.{filled_of}
+use Rattle.fillers.proofs.Filling.{Fillings, fillings_end, fillings_safe, fillings_turn}
 use borrow.Author.Rules.{rules}
 use Rattle.fillers.proofs.fill_pages.Statement.{statement}
 use Rattle.fillers.proofs.fill_pages.Tie as tie
 
 abbrev invariant-loop : tie.invariant-loop
-invariant-loop heap₀ links k n₀ tail i₀ heap n i = Fillings k.page (fillPages k.page (drop i₀ (take tail links)) (filledOf heap₀ [])) (drop i (take tail links)) heap n × ((n ≤ i * 1024) × (length heap ≡ length heap₀))
+invariant-loop heap₀ links k n₀ tail i₀ heap n i = Fillings k.page (fill_pages k.page (drop i₀ (take tail links)) (filled_of heap₀ [])) (drop i (take tail links)) heap n × ((n ≤ i * 1024) × (length heap ≡ length heap₀))
 
 abbrev decreases-loop : tie.decreases-loop
 decreases-loop heap₀ links k n₀ tail i₀ heap n i = tail - i
@@ -22,7 +22,7 @@ decreases-loop heap₀ links k n₀ tail i₀ heap n i = tail - i
 page : (c : tie.After-wide invariant-loop decreases-loop) →
     (c.wide.result * c.before.before.before.before.before.before.before.before.args.k.page + c.before.before.before.before.before.before.before.before.args.k.page ≤ length c.before.before.before.loop.heap)
     × SafeFill c.before.before.before.before.before.before.before.before.args.k.page (c.wide.result * c.before.before.before.before.before.before.before.before.args.k.page) c.before.before.before.before.before.before.before.before.args.k.page c.before.before.before.loop.heap
-page c = rw c.wide.ensures (fillings-safe _ _ c.before.before.before.before.before.before.before.before.args.links.now _ _ _ _ c.before.before.before.loop.invariant.0 c.before.before.before.before.before.before.before.before.requires.0.2 c.before.before.loop-test.true)
+page c = rw c.wide.ensures (fillings_safe _ _ c.before.before.before.before.before.before.before.before.args.links.now _ _ _ _ c.before.before.before.loop.invariant.0 c.before.before.before.before.before.before.before.before.requires.0.2 c.before.before.loop-test.true)
 
 cast-tail : tie.Need-overflow-cast-tail invariant-loop decreases-loop
 cast-tail c = search rules
@@ -69,13 +69,13 @@ loop-again : tie.Need-loop-preserved invariant-loop decreases-loop
 loop-again c =
     let inv = c.before.before.before.before.before.before.before.before.loop.invariant in
     let call = c.before.before.fill-page in
-    (fillings-turn _ _ c.before.before.before.before.before.before.before.before.before.before.before.before.before.args.links.now _ _ _ _ inv.0 c.before.before.before.before.before.before.before.before.before.before.before.before.before.requires.0.2 c.before.before.before.before.before.before.before.loop-test.true _ _ (rw c.before.before.before.before.before.wide.ensures at call.ensures.0), (omega (arith, c.before.before.before.before.before.before.before.before.before.before.before.before.before.requires.0.0, inv.1.0, call.ensures.1), call.auto.0 ∙ inv.1.1))
+    (fillings_turn _ _ c.before.before.before.before.before.before.before.before.before.before.before.before.before.args.links.now _ _ _ _ inv.0 c.before.before.before.before.before.before.before.before.before.before.before.before.before.requires.0.2 c.before.before.before.before.before.before.before.loop-test.true _ _ (rw c.before.before.before.before.before.wide.ensures at call.ensures.0), (omega (arith, c.before.before.before.before.before.before.before.before.before.before.before.before.before.requires.0.0, inv.1.0, call.ensures.1), call.auto.0 ∙ inv.1.1))
 
 same_length : tie.Need-same-length invariant-loop decreases-loop
 same_length c = c.before.loop.invariant.1.1
 
 returns : tie.Need-returns invariant-loop decreases-loop
-returns c = fillings-end _ _ c.before.before.before.before.before.before.args.links.now _ _ _ _ c.before.loop.invariant.0 c.before.before.before.before.before.before.requires.0.2 c.loop-test.false
+returns c = fillings_end _ _ c.before.before.before.before.before.before.args.links.now _ _ _ _ c.before.loop.invariant.0 c.before.before.before.before.before.before.requires.0.2 c.loop-test.false
 
 pub fill-pages-spec : {M : Type 1} → statement M
 fill-pages-spec =

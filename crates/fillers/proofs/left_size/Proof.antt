@@ -2,21 +2,21 @@
 use mathlib.Core.Path.{◌≡◌, sym, ◌∙◌}
 use mathlib.Core.Bool.{true}
 use borrow.Author.Tests.{not-true, not-false}
-use Rattle.rules.specs.Collection.{isLeft, sizeAtCopy}
-use Rattle.fillers.specs.Places.{leftSize}
+use Rattle.rules.specs.Collection.{is_left, size_at_copy}
+use Rattle.fillers.specs.Places.{left_size}
 use borrow.Author.Rules.{rules}
 use Rattle.fillers.proofs.left_size.Statement.{statement}
 use Rattle.fillers.proofs.left_size.Tie as tie
 
 -- an object was here
-left : (c : tie.Else1) → isLeft c.before.before.before.args.word c.before.before.before.args.room ≡ true
+left : (c : tie.Else1) → is_left c.before.before.before.args.word c.before.before.before.args.room ≡ true
 left c = sym c.before.is-left.ensures ∙ not-false _ c.if1.false
 
 is-left-requires : tie.Need-is-left-requires
 is-left-requires c κs = search rules
 
 returns : tie.Need-returns
-unfolding leftSize
+unfolding left_size
 returns c = rw (sym c.before.is-left.ensures ∙ not-true _ c.if1.true)
 
 cast-copy : tie.Need-overflow-cast-copy
@@ -32,7 +32,7 @@ size-of-requires : tie.Need-size-of-requires
 size-of-requires c κs = search rules
 
 returns-2 : tie.Need-returns-2
-unfolding leftSize sizeAtCopy
+unfolding left_size size_at_copy
 returns-2 c = rw (left c.before.before) c.type_size.ensures.0
 
 pub left-size-spec : {M : Type 1} → statement M

@@ -3,8 +3,8 @@ use mathlib.Core.Path.{refl}
 use Prim.Native.Nat.{◌<◌}
 use native.Mathlib.Omega.{arith}
 use lib.ListN.{length}
-use Rattle.hints.specs.Queue.{queue-longer}
-use Rattle.hints.proofs.Joining.{queued-joined}
+use Rattle.hints.specs.Queue.{queue_longer}
+use Rattle.hints.proofs.Joining.{queued_joined}
 use borrow.Author.Rules.{rules}
 use Rattle.hints.proofs.join.Statement.{statement}
 use Rattle.hints.proofs.join.Tie as tie
@@ -37,7 +37,7 @@ returns : tie.Need-returns
 returns c =
     let args = c.args in
     let t : args.queued < length args.links.now = omega (arith, c.requires.0.each) in
-    ((refl, refl, queue-longer args.links.now args.queued args.page t), queued-joined args.k args.labels.now args.links.now args.queued args.page c.requires.0 t)
+    ((refl, refl, queue_longer args.links.now args.queued args.page t), queued_joined args.k args.labels.now args.links.now args.queued args.page c.requires.0 t)
 
 pub join-spec : {M : Type 1} → statement M
 join-spec =

@@ -9,7 +9,7 @@ use borrow.Author.Tests.{not-true, not-false, le-ltb, lt-ltb}
 use Rattle.rules.specs.declared.Found.TheVariants.{Start}
 use Rattle.rules.specs.Ranges.{at}
 use Rattle.rules.specs.Header.{size_of}
-use Rattle.rules.specs.Lent.{Lent, lent, isValid}
+use Rattle.rules.specs.Lent.{Lent, lent, is_valid}
 use Rattle.rules.specs.Walk.{found}
 use Rattle.rules.specs.Calls.{load}
 use Rattle.objects.proofs.Laws.{not_start, found_within}
@@ -21,7 +21,7 @@ use Rattle.objects.proofs.load.Tie as tie
 abbrev memory : (c : tie.Start) → Lent
 memory c = lent c.args.heap.now c.args.labels.now c.args.links.now c.args.r
 
-valid : (c : tie.Else1) → isValid (memory c.before.before.before.before.before) ≡ true
+valid : (c : tie.Else1) → is_valid (memory c.before.before.before.before.before) ≡ true
 valid c = sym c.before.is-valid.ensures ∙ not-false _ c.if1.false
 
 -- the object was found, with its header

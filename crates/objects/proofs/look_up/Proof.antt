@@ -1,7 +1,7 @@
 -- `objects::look_up` meets its contract. Assumes nothing.
 use mathlib.Core.Path.{sym, ◌∙◌}
 use borrow.Author.Tests.{not-true, not-false}
-use Rattle.rules.specs.Calls.{lookUp}
+use Rattle.rules.specs.Calls.{look_up}
 use borrow.Author.Rules.{rules}
 use Rattle.objects.proofs.look_up.Statement.{statement}
 use Rattle.objects.proofs.look_up.Tie as tie
@@ -13,7 +13,7 @@ refused-requires : tie.Need-refused-requires
 refused-requires c κs = search rules
 
 returns : tie.Need-returns
-unfolding lookUp
+unfolding look_up
 returns c = rw (sym c.before.before.is-valid.ensures ∙ not-true _ c.before.if1.true) (c.refused.ensures _ _ _)
 
 find-requires : tie.Need-find-requires
@@ -23,7 +23,7 @@ told-requires : tie.Need-told-requires
 told-requires c κs = search rules
 
 returns-2 : tie.Need-returns-2
-unfolding lookUp
+unfolding look_up
 returns-2 c = rw (sym c.before.before.before.is-valid.ensures ∙ not-false _ c.before.before.if1.false, ← (c.before.find.ensures c.before.before.before.before.before.before.before.args.links.now)) (c.told.ensures _ _ _)
 
 pub look-up-spec : {M : Type 1} → statement M

@@ -1,6 +1,6 @@
 -- `phases::run` meets its contract. Each step begins where the one before it ended: what each leaves is what the definition has by then. Assumes nothing.
 use mathlib.Core.Path.{◌∙◌}
-use Rattle.phases.proofs.Running.{Before, Hinted, RootsDone, Swept, hints-are-safe, hinted-is, roots-are-safe, roots-done, queue-is-safe, swept-is, tails, fills-are-safe, filled_is, run_is}
+use Rattle.phases.proofs.Running.{Before, Hinted, RootsDone, Swept, hints_are_safe, hinted_is, roots_are_safe, roots_done, queue_is_safe, swept_is, tails, fills_are_safe, filled_is, run_is}
 use borrow.Author.Rules.{rules}
 use Rattle.phases.proofs.run.Statement.{statement}
 use Rattle.phases.proofs.run.Tie as tie
@@ -17,47 +17,47 @@ begun c =
 hinted : (c : tie.After-begin) →
     let args = c.before.before.before.before.before.before.before.before.before.before.before.before.before.before.args in
     Hinted args.r args.heap.now args.labels.now args.links.now args.hints.now c.before.before.before.before.before.before.before.before.shape_of.result c.before.before.before.before.before.hint-words.new.0 c.before.before.before.before.before.hint-words.new.1.0 c.before.before.before.before.before.hint-words.result c.begin.result
-hinted c = hinted-is (begun c.before.before.before.before.before.before.before.before) c.before.before.before.before.before.hint-words.ensures.0 c.before.before.before.before.before.hint-words.ensures.1 c.begin.ensures
+hinted c = hinted_is (begun c.before.before.before.before.before.before.before.before) c.before.before.before.before.before.hint-words.ensures.0 c.before.before.before.before.before.hint-words.ensures.1 c.begin.ensures
 
 -- after the roots
 rooted : (c : tie.After-forward-roots) →
     let args = c.before.before.before.before.before.before.before.before.before.before.before.before.before.before.before.before.before.before.before.args in
     RootsDone args.r args.heap.now args.labels.now args.links.now args.roots.now args.hints.now c.before.before.before.before.before.before.before.before.before.before.before.before.before.shape_of.result
     c.forward-roots.new.0 c.forward-roots.new.1.0 c.forward-roots.new.1.1.0 c.forward-roots.new.1.1.1.1.1.0 c.forward-roots.result
-rooted c = roots-done (begun c.before.before.before.before.before.before.before.before.before.before.before.before.before) (hinted c.before.before.before.before.before) c.forward-roots.ensures.0 c.forward-roots.ensures.1 (c.forward-roots.auto.1.1.0 ∙ c.before.before.before.before.before.before.before.before.before.before.hint-words.auto.1.0)
+rooted c = roots_done (begun c.before.before.before.before.before.before.before.before.before.before.before.before.before) (hinted c.before.before.before.before.before) c.forward-roots.ensures.0 c.forward-roots.ensures.1 (c.forward-roots.auto.1.1.0 ∙ c.before.before.before.before.before.before.before.before.before.before.hint-words.auto.1.0)
 
 -- after the sweep
 swept : (c : tie.After-sweep-queue) →
     let args = c.before.before.before.before.before.before.before.before.before.before.before.before.before.before.before.before.before.before.before.before.before.before.before.before.before.before.before.before.before.before.before.args in
     Swept args.r args.heap.now args.labels.now args.links.now args.roots.now args.hints.now
     c.sweep-queue.new.0 c.sweep-queue.new.1.0 c.sweep-queue.new.1.1.0 c.sweep-queue.result
-swept c = swept-is (begun c.before.before.before.before.before.before.before.before.before.before.before.before.before.before.before.before.before.before.before.before.before.before.before.before.before) (rooted c.before.before.before.before.before.before.before.before.before.before.before.before) c.sweep-queue.ensures.0 c.sweep-queue.ensures.1 c.sweep-queue.auto.1.1.0
+swept c = swept_is (begun c.before.before.before.before.before.before.before.before.before.before.before.before.before.before.before.before.before.before.before.before.before.before.before.before.before) (rooted c.before.before.before.before.before.before.before.before.before.before.before.before) c.sweep-queue.ensures.0 c.sweep-queue.ensures.1 c.sweep-queue.auto.1.1.0
 
 shape-of-requires : tie.Need-shape-of-requires
 shape-of-requires c κs = search rules
 
 hint-words-requires : tie.Need-hint-words-requires
-hint-words-requires c κs = hints-are-safe (begun c.before.before)
+hint-words-requires c κs = hints_are_safe (begun c.before.before)
 
 begin-requires : tie.Need-begin-requires
 begin-requires c κs = search rules
 
 forward-roots-requires : tie.Need-forward-roots-requires
-forward-roots-requires c κs = roots-are-safe (begun c.before.before.before.before.before.before.before.before.before.before.before.before) (hinted c.before.before.before.before)
+forward-roots-requires c κs = roots_are_safe (begun c.before.before.before.before.before.before.before.before.before.before.before.before) (hinted c.before.before.before.before)
 
 sweep-queue-requires : tie.Need-sweep-queue-requires
-sweep-queue-requires c κs = queue-is-safe (begun c.before.before.before.before.before.before.before.before.before.before.before.before.before.before.before.before.before.before.before.before.before.before.before.before) (rooted c.before.before.before.before.before.before.before.before.before.before.before)
+sweep-queue-requires c κs = queue_is_safe (begun c.before.before.before.before.before.before.before.before.before.before.before.before.before.before.before.before.before.before.before.before.before.before.before.before) (rooted c.before.before.before.before.before.before.before.before.before.before.before)
 
 fill-pages-requires : tie.Need-fill-pages-requires
-fill-pages-requires c κs = fills-are-safe (begun c.before.before.before.before.before.before.before.before.before.before.before.before.before.before.before.before.before.before.before.before.before.before.before.before.before.before.before.before.before.before.before.before.before) (hinted c.before.before.before.before.before.before.before.before.before.before.before.before.before.before.before.before.before.before.before.before.before.before.before.before.before) (rooted c.before.before.before.before.before.before.before.before.before.before.before.before.before.before.before.before.before.before.before.before) (swept c.before.before.before.before.before.before.before.before)
+fill-pages-requires c κs = fills_are_safe (begun c.before.before.before.before.before.before.before.before.before.before.before.before.before.before.before.before.before.before.before.before.before.before.before.before.before.before.before.before.before.before.before.before.before) (hinted c.before.before.before.before.before.before.before.before.before.before.before.before.before.before.before.before.before.before.before.before.before.before.before.before.before) (rooted c.before.before.before.before.before.before.before.before.before.before.before.before.before.before.before.before.before.before.before.before) (swept c.before.before.before.before.before.before.before.before)
 
 free-pages-requires : tie.Need-free-pages-requires
 free-pages-requires c κs =
     let the-begun = begun c.before.before.before.before.before.before.before.before.before.before.before.before.before.before.before.before.before.before.before.before.before.before.before.before.before.before.before.before.before.before.before.before.before.before.before.before.before.before in
-    let forward-roots = c.before.before.before.before.before.before.before.before.before.before.before.before.before.before.before.before.before.before.before.before.before.before.before.before.before.forward-roots in
-    let sweep-queue = c.before.before.before.before.before.before.before.before.before.before.before.before.before.sweep-queue in (
-      c.before.before.before.before.fill-pages.auto.0 ∙ sweep-queue.auto.0 ∙ forward-roots.auto.0 ∙ the-begun.layout.heap ∙ rw the-begun.shape,
-      sweep-queue.auto.1.0 ∙ forward-roots.auto.1.0 ∙ c.before.before.before.before.before.before.before.before.before.before.before.before.before.before.before.before.before.before.before.before.before.before.before.before.before.before.before.before.before.before.before.before.before.before.before.hint-words.auto.0 ∙ the-begun.layout.labels ∙ rw the-begun.shape,
+    let forward_roots_lem = c.before.before.before.before.before.before.before.before.before.before.before.before.before.before.before.before.before.before.before.before.before.before.before.before.before.forward-roots in
+    let sweep_queue_lem = c.before.before.before.before.before.before.before.before.before.before.before.before.before.sweep-queue in (
+      c.before.before.before.before.fill-pages.auto.0 ∙ sweep_queue_lem.auto.0 ∙ forward_roots_lem.auto.0 ∙ the-begun.layout.heap ∙ rw the-begun.shape,
+      sweep_queue_lem.auto.1.0 ∙ forward_roots_lem.auto.1.0 ∙ c.before.before.before.before.before.before.before.before.before.before.before.before.before.before.before.before.before.before.before.before.before.before.before.before.before.before.before.before.before.before.before.before.before.before.before.hint-words.auto.0 ∙ the-begun.layout.labels ∙ rw the-begun.shape,
     )
 
 clear16-requires : tie.Need-clear16-requires

@@ -10,7 +10,7 @@ use Rattle.steps.specs.Session.{before}
 use Rattle.lines.specs.Lines.{none}
 use Rattle.runs.specs.Run.{run, transcript}
 use Rattle.lines.specs.Put.{put_as}
-use Rattle.runs.proofs.Running.{first_part, at-start, counts}
+use Rattle.runs.proofs.Running.{first_part, at_start, counts}
 use native.Mathlib.Nat.{zero-add}
 use borrow.Author.Rules.{rules}
 use Rattle.runs.proofs.run.Statement.{statement}
@@ -58,7 +58,7 @@ returns c =
     let e = c.before.before.before.before.before.before.before.before.before.before.before.before.before.at_most.ensures in
     let is = ap (λ (x : List ℕ). run (length x / 8) x 0 before none) (first_part c.before.before.before.before.before.before.before.before.before.before.before.before.before.before.before.before.before.before.args.input.now c.before.before.before.before.before.before.before.before.before.before.before.before.before.at_most.result e) in
     let p = put_as {n = 264037} is (omega arith) c.before.before.before.before.before.run_on.ensures in
-    (counts p, (p.place ∙ zero-add _, at-start p))
+    (counts p, (p.place ∙ zero-add _, at_start p))
 
 pub run_spec : {M : Type 1} → statement M
 run_spec =

@@ -9,9 +9,9 @@ use Rattle.entries.specs.Entries.{next_at}
 use Rattle.steps.specs.Session.{step}
 use Rattle.lines.specs.Lines.{none, ending}
 use Rattle.runs.specs.Run.{run}
-use Rattle.steps.specs.Code.{session, notBegun, Buffers, Within}
+use Rattle.steps.specs.Code.{session, not_begun, Buffers, Within}
 use Rattle.lines.specs.Put.{put_then, put_as}
-use Rattle.runs.proofs.Running.{Running, is_whole, is-partial, at-partial, at_done, begins}
+use Rattle.runs.proofs.Running.{Running, is_whole, is_partial, at_partial, at_done, begins}
 use Rattle.runs.proofs.Running as running
 use borrow.Author.Rules.{rules}
 use Rattle.runs.proofs.run_on.Statement.{statement}
@@ -19,7 +19,7 @@ use Rattle.runs.proofs.run_on.Tie as tie
 
 abbrev invariant-loop : tie.invariant-loop
 invariant-loop input heap₀ labels₀ links₀ roots₀ hints₀ out₀ s₀ tally₀ at₀ place₀ heap labels links roots hints out s tally at place = (Buffers heap labels links roots hints) × (Within s)
-    × (Running input (session heap labels links roots hints s) tally at place out out₀ (run (length input / 8) input 0 (session heap₀ labels₀ links₀ roots₀ hints₀ notBegun) none))
+    × (Running input (session heap labels links roots hints s) tally at place out out₀ (run (length input / 8) input 0 (session heap₀ labels₀ links₀ roots₀ hints₀ not_begun) none))
 
 abbrev decreases-loop : tie.decreases-loop
 decreases-loop input heap₀ labels₀ links₀ roots₀ hints₀ out₀ s₀ tally₀ at₀ place₀ heap labels links roots hints out s tally at place = length input - at
@@ -40,7 +40,7 @@ new-requires-2 c κs = tt
 loop-holds : tie.Need-loop-init invariant-loop decreases-loop
 loop-holds c =
     let a = c.before.before.before.before.before.before.before.before.before.args in
-    let m = session a.heap.now a.labels.now a.links.now a.roots.now a.hints.now notBegun in (
+    let m = session a.heap.now a.labels.now a.links.now a.roots.now a.hints.now not_begun in (
       c.before.before.before.before.before.before.before.before.before.requires.1,
       rw c.before.new.ensures (record { words = omega arith; pages = omega arith }),
       rw (c.before.new.ensures, c.new2.ensures) (begins a.input.now a.out.now m),
@@ -96,7 +96,7 @@ enum_told : tie.Need-enum-told invariant-loop decreases-loop
 enum_told c = search rules
 
 put-line-requires-2 : tie.Need-put-line-requires-2 invariant-loop decreases-loop
-put-line-requires-2 c κs = let w = is-partial _ _ (part c.before) in let n = c.before.before.before.before.loop.invariant.2 in omega (arith, w, n.count, n.near, n.size, c.before.before.before.before.before.before.before.before.before.before.before.before.before.before.requires.0)
+put-line-requires-2 c κs = let w = is_partial _ _ (part c.before) in let n = c.before.before.before.before.loop.invariant.2 in omega (arith, w, n.count, n.near, n.size, c.before.before.before.before.before.before.before.before.before.before.before.before.before.before.requires.0)
 
 tallied-requires-2 : tie.Need-tallied-requires-2 invariant-loop decreases-loop
 tallied-requires-2 c κs =
@@ -105,7 +105,7 @@ tallied-requires-2 c κs =
 
 put-ending-requires : tie.Need-put-ending-requires invariant-loop decreases-loop
 put-ending-requires c κs =
-    let w = is-partial _ _ (part c.before.before.before.before.before.before) in
+    let w = is_partial _ _ (part c.before.before.before.before.before.before) in
     let n = c.before.before.before.before.before.before.before.before.before.loop.invariant.2 in
     omega (arith, w, n.count, n.near, n.size, c.before.before.before.before.put-line2.ensures.near, c.before.before.before.before.put-line2.auto.0, c.before.before.before.before.before.before.before.before.before.before.before.before.before.before.before.before.before.before.before.requires.0)
 
@@ -129,12 +129,12 @@ same-length-6 c = c.before.before.put-ending.auto.0 ∙ c.before.before.before.b
 
 returns : tie.Need-returns invariant-loop decreases-loop
 returns c =
-    let w = is-partial _ _ (part c.before.before.before.before.before.before.before.before.before) in
+    let w = is_partial _ _ (part c.before.before.before.before.before.before.before.before.before) in
     let n = c.before.before.before.before.before.before.before.before.before.before.before.before.loop.invariant.2 in
     let p = c.before.before.before.before.before.before.before.put-line2.ensures in
     let q = put_as {n = 37} (ap ending c.before.before.before.tallied2.ensures) (omega arith) c.before.before.put-ending.ensures in
     let both = put_then p q (omega (arith, p.place, p.near, w, n.count, n.near, n.size, c.before.before.before.before.before.before.before.before.before.before.before.before.before.before.before.before.before.before.before.before.before.before.requires.0)) in
-    running.finishes n (at-partial _ _ _ _ (part c.before.before.before.before.before.before.before.before.before)) both (omega (arith, w, n.count, n.near, c.before.before.before.before.before.before.before.before.before.before.before.before.before.before.before.before.before.before.before.before.before.before.requires.0))
+    running.finishes n (at_partial _ _ _ _ (part c.before.before.before.before.before.before.before.before.before)) both (omega (arith, w, n.count, n.near, c.before.before.before.before.before.before.before.before.before.before.before.before.before.before.before.before.before.before.before.before.before.before.requires.0))
 
 enum-told-2 : tie.Need-enum-told-2 invariant-loop decreases-loop
 enum-told-2 c = search rules

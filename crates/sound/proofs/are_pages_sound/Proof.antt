@@ -6,14 +6,14 @@ use Prim.Native.Nat.{ℕ, ◌-◌}
 use borrow.Author.Tests.{not-true, not-false}
 use Rattle.rules.specs.Ranges.{block, each}
 use Rattle.rules.specs.Lent.{lent}
-use Rattle.rules.specs.Sound.{isPageSound}
-use Rattle.laws.specs.Lists.{each-past, each-no, each-yes}
+use Rattle.rules.specs.Sound.{is_page_sound}
+use Rattle.laws.specs.Lists.{each_past, each_no, each_yes}
 use borrow.Author.Rules.{rules}
 use Rattle.sound.proofs.are_pages_sound.Statement.{statement}
 use Rattle.sound.proofs.are_pages_sound.Tie as tie
 
 abbrev invariant-loop : tie.invariant-loop
-invariant-loop heap labels r g₀ g = (links : List ℕ) → each (isPageSound (lent heap labels links r)) (block g r.pages) ≡ each (isPageSound (lent heap labels links r)) (block 1 r.pages)
+invariant-loop heap labels r g₀ g = (links : List ℕ) → each (is_page_sound (lent heap labels links r)) (block g r.pages) ≡ each (is_page_sound (lent heap labels links r)) (block 1 r.pages)
 
 abbrev decreases-loop : tie.decreases-loop
 decreases-loop heap labels r g₀ g = r.pages - g
@@ -25,7 +25,7 @@ is-page-sound-requires : tie.Need-is-page-sound-requires invariant-loop decrease
 is-page-sound-requires c κs = search rules
 
 returns : tie.Need-returns invariant-loop decreases-loop
-returns c = λ links. sym (each-no _ _ _ c.before.before.if1.true (sym (c.before.is-page-sound.ensures links) ∙ not-true _ c.if2.true)) ∙ c.before.before.before.before.loop.invariant links
+returns c = λ links. sym (each_no _ _ _ c.before.before.if1.true (sym (c.before.is-page-sound.ensures links) ∙ not-true _ c.if2.true)) ∙ c.before.before.before.before.loop.invariant links
 
 add-g : tie.Need-overflow-add-g invariant-loop decreases-loop
 add-g c = search rules
@@ -34,10 +34,10 @@ loop-less : tie.Need-loop-smaller invariant-loop decreases-loop
 loop-less c = search rules
 
 loop-again : tie.Need-loop-preserved invariant-loop decreases-loop
-loop-again c = λ links. sym (each-yes _ _ _ c.before.before.if1.true (sym (c.before.is-page-sound.ensures links) ∙ not-false _ c.if2.false)) ∙ c.before.before.before.before.loop.invariant links
+loop-again c = λ links. sym (each_yes _ _ _ c.before.before.if1.true (sym (c.before.is-page-sound.ensures links) ∙ not-false _ c.if2.false)) ∙ c.before.before.before.before.loop.invariant links
 
 returns-2 : tie.Need-returns-2 invariant-loop decreases-loop
-returns-2 c = λ links. sym (each-past _ _ _ c.if1.false) ∙ c.before.before.loop.invariant links
+returns-2 c = λ links. sym (each_past _ _ _ c.if1.false) ∙ c.before.before.loop.invariant links
 
 pub are-pages-sound-spec : {M : Type 1} → statement M
 are-pages-sound-spec =

@@ -6,16 +6,16 @@ use Prim.Native.Nat.{ℕ, ◌-◌}
 use borrow.Author.Tests.{not-true, not-false}
 use Rattle.rules.specs.Ranges.{at, block, each}
 use Rattle.rules.specs.Lent.{lent}
-use Rattle.rules.specs.Walk.{isReference}
-use Rattle.laws.specs.Lists.{past_one, each-no, each-yes}
-use Rattle.laws.specs.Sound.{references-past}
+use Rattle.rules.specs.Walk.{is_reference}
+use Rattle.laws.specs.Lists.{past_one, each_no, each_yes}
+use Rattle.laws.specs.Sound.{references_past}
 use native.Mathlib.Omega.{arith}
 use borrow.Author.Rules.{rules}
 use Rattle.sound.proofs.are_references.Statement.{statement}
 use Rattle.sound.proofs.are_references.Tie as tie
 
 abbrev invariant-loop : tie.invariant-loop
-invariant-loop heap labels r a e end i₀ i = (links : List ℕ) → each (λ w. isReference (lent heap labels links r) (at heap w)) (block i e) ≡ each (λ w. isReference (lent heap labels links r) (at heap w)) (block a e)
+invariant-loop heap labels r a e end i₀ i = (links : List ℕ) → each (λ w. is_reference (lent heap labels links r) (at heap w)) (block i e) ≡ each (λ w. is_reference (lent heap labels links r) (at heap w)) (block a e)
 
 abbrev decreases-loop : tie.decreases-loop
 decreases-loop heap labels r a e end i₀ i = e - i
@@ -27,7 +27,7 @@ is-reference-requires : tie.Need-is-reference-requires invariant-loop decreases-
 is-reference-requires c κs = search rules
 
 returns : tie.Need-returns invariant-loop decreases-loop
-returns c = λ links. sym (each-no _ _ _ (omega arith) (sym (c.before.is-reference.ensures links) ∙ not-true _ c.if1.true)) ∙ c.before.before.before.before.loop.invariant links
+returns c = λ links. sym (each_no _ _ _ (omega arith) (sym (c.before.is-reference.ensures links) ∙ not-true _ c.if1.true)) ∙ c.before.before.before.before.loop.invariant links
 
 add-i : tie.Need-overflow-add-i invariant-loop decreases-loop
 add-i c = search rules
@@ -36,10 +36,10 @@ loop-less : tie.Need-loop-smaller invariant-loop decreases-loop
 loop-less c = search rules
 
 loop-again : tie.Need-loop-preserved invariant-loop decreases-loop
-loop-again c = λ links. sym (each-yes _ _ _ (omega arith) (sym (c.before.is-reference.ensures links) ∙ not-false _ c.if1.false)) ∙ c.before.before.before.before.loop.invariant links
+loop-again c = λ links. sym (each_yes _ _ _ (omega arith) (sym (c.before.is-reference.ensures links) ∙ not-false _ c.if1.false)) ∙ c.before.before.before.before.loop.invariant links
 
 returns-2 : tie.Need-returns-2 invariant-loop decreases-loop
-returns-2 c = λ links. sym (references-past (lent c.before.before.before.before.before.args.heap.now c.before.before.before.before.before.args.labels.now links c.before.before.before.before.before.args.r) _ _ (past_one c.before.before.smaller.ensures.2 c.loop-test.false)) ∙ c.before.loop.invariant links
+returns-2 c = λ links. sym (references_past (lent c.before.before.before.before.before.args.heap.now c.before.before.before.before.before.args.labels.now links c.before.before.before.before.before.args.r) _ _ (past_one c.before.before.smaller.ensures.2 c.loop-test.false)) ∙ c.before.loop.invariant links
 
 smaller-requires : tie.Need-smaller-requires invariant-loop decreases-loop
 smaller-requires c κs = search rules

@@ -3,16 +3,16 @@
 use mathlib.Core.Path.{◌≡◌, refl, sym, ◌∙◌}
 use Prim.Native.Nat.{◌-◌}
 use borrow.Author.Tests.{eq-eqb, ne_eqb}
-use Rattle.rules.specs.Sound.{isBlank}
-use Rattle.laws.specs.Lists.{past_one, each-no, each-yes}
-use Rattle.laws.specs.Sound.{blank-past}
+use Rattle.rules.specs.Sound.{is_blank}
+use Rattle.laws.specs.Lists.{past_one, each_no, each_yes}
+use Rattle.laws.specs.Sound.{blank_past}
 use native.Mathlib.Omega.{arith}
 use borrow.Author.Rules.{rules}
 use Rattle.sound.proofs.is_blank.Statement.{statement}
 use Rattle.sound.proofs.is_blank.Tie as tie
 
 abbrev invariant-loop : tie.invariant-loop
-invariant-loop heap a e end i₀ i = isBlank heap i e ≡ isBlank heap a e
+invariant-loop heap a e end i₀ i = is_blank heap i e ≡ is_blank heap a e
 
 abbrev decreases-loop : tie.decreases-loop
 decreases-loop heap a e end i₀ i = e - i
@@ -21,8 +21,8 @@ loop-holds : tie.Need-loop-init invariant-loop decreases-loop
 loop-holds c = refl
 
 returns : tie.Need-returns invariant-loop decreases-loop
-unfolding isBlank
-returns c = sym (each-no _ _ _ (omega arith) (ne_eqb _ _ c.if1.true)) ∙ c.before.before.before.loop.invariant
+unfolding is_blank
+returns c = sym (each_no _ _ _ (omega arith) (ne_eqb _ _ c.if1.true)) ∙ c.before.before.before.loop.invariant
 
 add-i : tie.Need-overflow-add-i invariant-loop decreases-loop
 add-i c = search rules
@@ -31,11 +31,11 @@ loop-less : tie.Need-loop-smaller invariant-loop decreases-loop
 loop-less c = search rules
 
 loop-again : tie.Need-loop-preserved invariant-loop decreases-loop
-unfolding isBlank
-loop-again c = sym (each-yes _ _ _ (omega arith) (eq-eqb _ _ c.if1.false)) ∙ c.before.before.before.loop.invariant
+unfolding is_blank
+loop-again c = sym (each_yes _ _ _ (omega arith) (eq-eqb _ _ c.if1.false)) ∙ c.before.before.before.loop.invariant
 
 returns-2 : tie.Need-returns-2 invariant-loop decreases-loop
-returns-2 c = sym (blank-past _ _ _ (past_one c.before.before.smaller.ensures.2 c.loop-test.false)) ∙ c.before.loop.invariant
+returns-2 c = sym (blank_past _ _ _ (past_one c.before.before.smaller.ensures.2 c.loop-test.false)) ∙ c.before.loop.invariant
 
 smaller-requires : tie.Need-smaller-requires invariant-loop decreases-loop
 smaller-requires c κs = search rules

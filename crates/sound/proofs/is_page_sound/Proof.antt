@@ -3,8 +3,8 @@ use mathlib.Core.Path.{sym, ◌∙◌}
 use Prim.Native.Nat.{◌*◌, ◌≤◌}
 use native.Mathlib.Omega.{arith}
 use borrow.Author.Tests.{eq-eqb, ne_eqb}
-use Rattle.rules.specs.Pages.{isFree}
-use Rattle.rules.specs.Sound.{isPageSound}
+use Rattle.rules.specs.Pages.{is_free}
+use Rattle.rules.specs.Sound.{is_page_sound}
 use Rattle.sound.proofs.Laws.{place}
 use borrow.Author.Rules.{rules}
 use Rattle.sound.proofs.is_page_sound.Statement.{statement}
@@ -21,7 +21,7 @@ is-used-sound-requires : tie.Need-is-used-sound-requires
 is-used-sound-requires c κs = search rules
 
 returns : tie.Need-returns
-unfolding isPageSound isFree
+unfolding is_page_sound is_free
 returns c = λ links. rw (ne_eqb _ _ (λ e. c.before.if1.true (c.before.before.label_at.ensures ∙ e))) (c.is-used-sound.ensures links)
 
 cast-page : tie.Need-overflow-cast-page
@@ -37,7 +37,7 @@ is-blank-requires : tie.Need-is-blank-requires
 is-blank-requires c κs = search rules
 
 returns-2 : tie.Need-returns-2
-unfolding isPageSound isFree
+unfolding is_page_sound is_free
 returns-2 c = λ links. rw (eq-eqb _ _ (sym c.before.before.before.label_at.ensures ∙ c.before.before.if1.false)) c.is-blank.ensures
 
 pub is-page-sound-spec : {M : Type 1} → statement M

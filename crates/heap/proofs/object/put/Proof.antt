@@ -4,8 +4,8 @@ use mathlib.Core.Path.{◌≡◌, refl, sym, ◌∙◌}
 use Prim.Native.Nat.{◌+◌, ◌-◌, ◌≤◌}
 use native.Mathlib.Omega.{arith}
 use lib.ListN.{length, length-set}
-use Rattle.rules.specs.Header.{headerOf}
-use Rattle.heap.proofs.Laws.{zeros, put_is, zeros-past, zeros-step}
+use Rattle.rules.specs.Header.{header_of}
+use Rattle.heap.proofs.Laws.{zeros, put_is, zeros_past, zeros_step}
 use borrow.Author.Rules.{rules}
 use Rattle.heap.proofs.object.put.Statement.{statement}
 use Rattle.heap.proofs.object.put.Tie as tie
@@ -20,7 +20,7 @@ header-of-requires : tie.Need-header-of-requires invariant-loop decreases-loop
 header-of-requires c κs = search rules
 
 cast-heap : tie.Need-overflow-cast-heap invariant-loop decreases-loop
-unfolding headerOf
+unfolding header_of
 cast-heap c = let r = c.before.before.requires in omega (arith, c.header_of.ensures)
 
 mul-heap : tie.Need-overflow-mul-heap invariant-loop decreases-loop
@@ -51,13 +51,13 @@ loop-less : tie.Need-loop-smaller invariant-loop decreases-loop
 loop-less c = search rules
 
 loop-again : tie.Need-loop-preserved invariant-loop decreases-loop
-loop-again c = (omega arith, simp length-set (simp length-set at c.before.loop.invariant.1), sym (zeros-step _ _ _ c.loop-test.true) ∙ c.before.loop.invariant.2)
+loop-again c = (omega arith, simp length-set (simp length-set at c.before.loop.invariant.1), sym (zeros_step _ _ _ c.loop-test.true) ∙ c.before.loop.invariant.2)
 
 same_length : tie.Need-same-length invariant-loop decreases-loop
 same_length c = c.before.loop.invariant.1 ∙ simp length-set
 
 returns : tie.Need-returns invariant-loop decreases-loop
-returns c = sym (zeros-past _ _ _ c.loop-test.false) ∙ c.before.loop.invariant.2 ∙ put_is c.before.before.before.before.args.heap.now c.before.before.before.before.args.address c.before.before.before.before.args.d _ _ c.before.before.header_of.ensures
+returns c = sym (zeros_past _ _ _ c.loop-test.false) ∙ c.before.loop.invariant.2 ∙ put_is c.before.before.before.before.args.heap.now c.before.before.before.before.args.address c.before.before.before.before.args.d _ _ c.before.before.header_of.ensures
 
 pub put_spec : {M : Type 1} → statement M
 put_spec =

@@ -4,15 +4,15 @@ use mathlib.Core.Path.{◌≡◌}
 use mathlib.Core.Logic.{⊎_elim}
 use Prim.Native.Nat.{◌+◌, ◌-◌, ◌≤◌}
 use native.Mathlib.Omega.{arith}
-use Rattle.rules.specs.Pages.{pagesUsed}
+use Rattle.rules.specs.Pages.{pages_used}
 use Rattle.laws.specs.Lists.{past_one}
-use Rattle.laws.specs.FreePages.{used-past, used-more, used-free}
+use Rattle.laws.specs.FreePages.{used_past, used_more, used_free}
 use borrow.Author.Rules.{rules}
 use Rattle.layout.proofs.tables.pages_used.Statement.{statement}
 use Rattle.layout.proofs.tables.pages_used.Tie as tie
 
 abbrev invariant-loop : tie.invariant-loop
-invariant-loop labels lo hi end n₀ g₀ n g = (lo ≤ g) × (n ≤ g - lo) × (n ≤ hi - lo) × (n + pagesUsed labels g hi ≡ pagesUsed labels lo hi)
+invariant-loop labels lo hi end n₀ g₀ n g = (lo ≤ g) × (n ≤ g - lo) × (n ≤ hi - lo) × (n + pages_used labels g hi ≡ pages_used labels lo hi)
 
 abbrev decreases-loop : tie.decreases-loop
 decreases-loop labels lo hi end n₀ g₀ n g = hi - g
@@ -31,12 +31,12 @@ loop-less c = search rules
 
 loop-again : tie.Need-loop-preserved invariant-loop decreases-loop
 loop-again c = ⊎_elim
-    (λ w. let z = used-more c.before.before.before.before.before.before.args.labels.now c.before.before.before.loop.g c.before.before.before.before.before.before.args.hi (omega arith) w.0.taken in omega arith)
-    (λ w. let z = used-free c.before.before.before.before.before.before.args.labels.now c.before.before.before.loop.g c.before.before.before.before.before.before.args.hi (omega arith) w.0.left in omega arith)
+    (λ w. let z = used_more c.before.before.before.before.before.before.args.labels.now c.before.before.before.loop.g c.before.before.before.before.before.before.args.hi (omega arith) w.0.taken in omega arith)
+    (λ w. let z = used_free c.before.before.before.before.before.before.args.labels.now c.before.before.before.loop.g c.before.before.before.before.before.before.args.hi (omega arith) w.0.left in omega arith)
     c.if1.branch
 
 returns : tie.Need-returns invariant-loop decreases-loop
-returns c = let z = used-past c.before.before.before.before.args.labels.now c.before.loop.g c.before.before.before.before.args.hi (past_one c.before.before.smaller.ensures.2 c.loop-test.false) in omega arith
+returns c = let z = used_past c.before.before.before.before.args.labels.now c.before.loop.g c.before.before.before.before.args.hi (past_one c.before.before.smaller.ensures.2 c.loop-test.false) in omega arith
 
 smaller-requires : tie.Need-smaller-requires invariant-loop decreases-loop
 smaller-requires c κs = search rules

@@ -6,9 +6,9 @@ use Prim.Native.Nat.{ℕ, ◌+◌, ◌*◌, ◌/◌, ◌≤◌, ◌<◌}
 use native.Mathlib.Omega.{arith}
 use Rattle.rules.specs.Lent.{lent}
 use Rattle.rules.specs.Sound.{InUse}
-use Rattle.laws.specs.Pages.{page-on}
-use Rattle.laws.specs.LookUp.{look-no-page, look-low, look-high, look-label}
-use Rattle.layout.proofs.Laws.{found-in-use}
+use Rattle.laws.specs.Pages.{page_on}
+use Rattle.laws.specs.LookUp.{look_no_page, look_low, look_high, look_label}
+use Rattle.layout.proofs.Laws.{found_in_use}
 use borrow.Author.Rules.{rules}
 use Rattle.layout.proofs.walk.find.Statement.{statement}
 use Rattle.layout.proofs.walk.find.Tie as tie
@@ -17,20 +17,20 @@ used : (c : tie.Else4) (links : List ℕ) → InUse (lent c.before.before.before
 used c links = record { low = c.before.before.before.before.before.if2.false; high = c.before.before.before.if3.false; label = sym c.before.before.label_at.ensures ∙ c.if4.false }
 
 -- the address is on the page that begins there
-on-page : (c : tie.Else4) → (c.before.before.before.before.before.before.before.before.before.args.address / c.before.before.before.before.before.before.before.before.before.args.r.page * c.before.before.before.before.before.before.before.before.before.args.r.page ≤ c.before.before.before.before.before.before.before.before.before.args.address) × (c.before.before.before.before.before.before.before.before.before.args.address < c.before.before.before.before.before.before.before.before.before.args.address / c.before.before.before.before.before.before.before.before.before.args.r.page * c.before.before.before.before.before.before.before.before.before.args.r.page + c.before.before.before.before.before.before.before.before.before.args.r.page)
-on-page c = let n = c.before.before.before.before.before.before.if1.false in page-on (omega arith) c.before.before.before.before.before.before.before.before.before.args.address _ refl
+on_page : (c : tie.Else4) → (c.before.before.before.before.before.before.before.before.before.args.address / c.before.before.before.before.before.before.before.before.before.args.r.page * c.before.before.before.before.before.before.before.before.before.args.r.page ≤ c.before.before.before.before.before.before.before.before.before.args.address) × (c.before.before.before.before.before.before.before.before.before.args.address < c.before.before.before.before.before.before.before.before.before.args.address / c.before.before.before.before.before.before.before.before.before.args.r.page * c.before.before.before.before.before.before.before.before.before.args.r.page + c.before.before.before.before.before.before.before.before.before.args.r.page)
+on_page c = let n = c.before.before.before.before.before.before.if1.false in page_on (omega arith) c.before.before.before.before.before.before.before.before.before.args.address _ refl
 
 returns : tie.Need-returns
-returns c = λ links. sym (look-no-page _ _ c.if1.true)
+returns c = λ links. sym (look_no_page _ _ c.if1.true)
 
 div-g : tie.Need-nonzero-div-g
 div-g c = search rules
 
 returns-2 : tie.Need-returns-2
-returns-2 c = λ links. sym (look-low _ _ c.if2.true)
+returns-2 c = λ links. sym (look_low _ _ c.if2.true)
 
 returns-3 : tie.Need-returns-3
-returns-3 c = λ links. sym (look-high _ _ c.if3.true)
+returns-3 c = λ links. sym (look_high _ _ c.if3.true)
 
 cast-label-at : tie.Need-overflow-cast-label-at
 cast-label-at c = search rules
@@ -39,16 +39,16 @@ label-at-requires : tie.Need-label-at-requires
 label-at-requires c κs = search rules
 
 returns-4 : tie.Need-returns-4
-returns-4 c = λ links. sym (look-label _ _ (λ e. c.if4.true (c.before.before.label_at.ensures ∙ e)))
+returns-4 c = λ links. sym (look_label _ _ (λ e. c.if4.true (c.before.before.label_at.ensures ∙ e)))
 
 mul-walk : tie.Need-overflow-mul-walk
-mul-walk c = omega (arith, (on-page c).0)
+mul-walk c = omega (arith, (on_page c).0)
 
 walk-requires : tie.Need-walk-requires
-walk-requires c κs = on-page c
+walk-requires c κs = on_page c
 
 returns-5 : tie.Need-returns-5
-returns-5 c = λ links. c.walk.ensures ∙ sym (found-in-use _ _ _ (used c.before links) refl)
+returns-5 c = λ links. c.walk.ensures ∙ sym (found_in_use _ _ _ (used c.before links) refl)
 
 pub find_spec : {M : Type 1} → statement M
 find_spec =

@@ -1,5 +1,5 @@
 -- `numbers::header::header_of` meets its contract. Assumes nothing.
-use Rattle.rules.specs.Header.{headerOf}
+use Rattle.rules.specs.Header.{header_of}
 use borrow.Author.Rules.{rules}
 use Rattle.numbers.proofs.header.header_of.Statement.{statement}
 use Rattle.numbers.proofs.header.header_of.Tie as tie
@@ -20,7 +20,7 @@ add-result-3 : tie.Need-overflow-add-result-3
 add-result-3 c = search rules
 
 returns : tie.Need-returns
-unfolding headerOf
+unfolding header_of
 returns c = search rules
 
 pub header-of-spec : {M : Type 1} → statement M

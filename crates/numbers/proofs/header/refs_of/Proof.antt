@@ -1,5 +1,5 @@
 -- `numbers::header::refs_of` meets its contract. Assumes nothing.
-use Rattle.rules.specs.Header.{refsOf}
+use Rattle.rules.specs.Header.{refs_of}
 use native.Mathlib.Omega.{arith}
 use borrow.Author.Rules.{rules}
 use Rattle.numbers.proofs.header.refs_of.Statement.{statement}
@@ -9,7 +9,7 @@ wide-requires : tie.Need-wide-requires
 wide-requires c κs = search rules
 
 returns : tie.Need-returns
-unfolding refsOf
+unfolding refs_of
 returns c = (c.wide.ensures, omega arith)
 
 pub refs-of-spec : {M : Type 1} → statement M

@@ -1,7 +1,7 @@
 -- `numbers::pages::page_named_before_checked` meets its contract. Assumes nothing.
 use mathlib.Core.Path.{sym, ◌∙◌}
 use borrow.Author.Tests.{not-true, not-false}
-use Rattle.rules.specs.Pages.{pageNamedBeforeToC}
+use Rattle.rules.specs.Pages.{page_named_before_to_c}
 use borrow.Author.Rules.{rules}
 use Rattle.numbers.proofs.pages.page_named_before_checked.Statement.{statement}
 use Rattle.numbers.proofs.pages.page_named_before_checked.Tie as tie
@@ -10,14 +10,14 @@ is-shape-requires : tie.Need-is-shape-requires
 is-shape-requires c κs = search rules
 
 returns : tie.Need-returns
-unfolding pageNamedBeforeToC
+unfolding page_named_before_to_c
 returns c = simp (sym c.before.is-shape.ensures ∙ not-true _ c.if1.true)
 
 page-named-before-requires : tie.Need-page-named-before-requires
 page-named-before-requires c κs = search rules
 
 returns-2 : tie.Need-returns-2
-unfolding pageNamedBeforeToC
+unfolding page_named_before_to_c
 returns-2 c = c.page-named-before.ensures ∙ rw (sym c.before.before.is-shape.ensures ∙ not-false _ c.before.if1.false)
 
 pub page-named-before-checked-spec : {M : Type 1} → statement M

@@ -4,14 +4,14 @@ use Prim.Native.Nat.{◌+◌, ◌*◌, ◌≤◌}
 use native.Mathlib.Omega.{arith}
 use lib.ListN.{length}
 use borrow.Author.Tests.{eq-eqb, ne_eqb}
-use Rattle.laws.specs.Pages.{page-end}
+use Rattle.laws.specs.Pages.{page_end}
 use borrow.Author.Rules.{rules}
 use Rattle.phases.proofs.free.free_page.Statement.{statement}
 use Rattle.phases.proofs.free.free_page.Tie as tie
 
 -- page g lies in the heap
 inside : (c : tie.Start) → c.args.g * c.args.k.page + c.args.k.page ≤ length c.args.heap.now
-inside c = omega (arith, c.requires.0.0, page-end c.args.g c.args.k.page c.args.k.pages c.requires.1)
+inside c = omega (arith, c.requires.0.0, page_end c.args.g c.args.k.page c.args.k.pages c.requires.1)
 
 returns : tie.Need-returns
 returns c =

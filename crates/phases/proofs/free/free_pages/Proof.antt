@@ -3,21 +3,21 @@ use mathlib.Core.Path.{◌≡◌, refl, ◌∙◌}
 use Prim.Native.Nat.{◌-◌}
 use native.Mathlib.Omega.{arith}
 use lib.ListN.{length}
-use Rattle.rules.specs.Collection.{freedHeap, freedLabels}
-use Rattle.phases.proofs.Freeing.{Freeing, freeing-begin, freeing-turn, freeing-end}
+use Rattle.rules.specs.Collection.{freed_heap, freed_labels}
+use Rattle.phases.proofs.Freeing.{Freeing, freeing_begin, freeing_turn, freeing_end}
 use borrow.Author.Rules.{rules}
 use Rattle.phases.proofs.free.free_pages.Statement.{statement}
 use Rattle.phases.proofs.free.free_pages.Tie as tie
 
 abbrev invariant-loop : tie.invariant-loop
-invariant-loop heap₀ labels₀ k g₀ heap labels g = Freeing k.page k.old (freedHeap k.page k.old labels₀ heap₀) (freedLabels k.old labels₀) heap labels g
+invariant-loop heap₀ labels₀ k g₀ heap labels g = Freeing k.page k.old (freed_heap k.page k.old labels₀ heap₀) (freed_labels k.old labels₀) heap labels g
     × ((length heap ≡ length heap₀) × (length labels ≡ length labels₀))
 
 abbrev decreases-loop : tie.decreases-loop
 decreases-loop heap₀ labels₀ k g₀ heap labels g = k.pages - g
 
 loop-holds : tie.Need-loop-init invariant-loop decreases-loop
-loop-holds c = (freeing-begin _ _ _ _, (refl, refl))
+loop-holds c = (freeing_begin _ _ _ _, (refl, refl))
 
 cast-if1 : tie.Need-overflow-cast-if1 invariant-loop decreases-loop
 cast-if1 c = search rules
@@ -39,7 +39,7 @@ loop-again c =
     let pre = c.before.before.before.before.before.before.before.before.before.before.before.before.requires in
     let inv = c.before.before.before.before.before.before.before.before.before.loop.invariant in
     let call = c.before.before.before.before.free-page in
-    (freeing-turn _ _ c.before.before.before.before.before.before.before.before.before.before.before.before.args.k.pages _ _ _ _ _ inv.0 (inv.1.0 ∙ pre.0) (inv.1.1 ∙ pre.1) c.before.before.before.before.before.before.before.if1.true _ _ call.ensures.0 call.ensures.1, (call.auto.0 ∙ inv.1.0, call.auto.1.0 ∙ inv.1.1))
+    (freeing_turn _ _ c.before.before.before.before.before.before.before.before.before.before.before.before.args.k.pages _ _ _ _ _ inv.0 (inv.1.0 ∙ pre.0) (inv.1.1 ∙ pre.1) c.before.before.before.before.before.before.before.if1.true _ _ call.ensures.0 call.ensures.1, (call.auto.0 ∙ inv.1.0, call.auto.1.0 ∙ inv.1.1))
 
 same_length : tie.Need-same-length invariant-loop decreases-loop
 same_length c = c.before.before.loop.invariant.1.0
@@ -51,7 +51,7 @@ returns : tie.Need-returns invariant-loop decreases-loop
 returns c =
     let pre = c.before.before.before.before.before.requires in
     let inv = c.before.before.loop.invariant in
-    freeing-end _ _ c.before.before.before.before.before.args.k.pages _ _ _ _ _ inv.0 (inv.1.0 ∙ pre.0) (inv.1.1 ∙ pre.1) c.if1.false
+    freeing_end _ _ c.before.before.before.before.before.args.k.pages _ _ _ _ _ inv.0 (inv.1.0 ∙ pre.0) (inv.1.1 ∙ pre.1) c.if1.false
 
 pub free-pages-spec : {M : Type 1} → statement M
 free-pages-spec =

@@ -3,7 +3,7 @@ use Prim.Native.Nat.{◌-◌}
 use mathlib.Core.Path.{◌≡◌, refl}
 use lib.ListN.{length, length-set, replicate}
 use lib.Seq.{sets}
-use Rattle.phases.proofs.Freeing.{Zeroing, zeroing-begin, zeroing-turn, zeroing-end}
+use Rattle.phases.proofs.Freeing.{Zeroing, zeroing_begin, zeroing_turn, zeroing_end}
 use borrow.Author.Rules.{rules}
 use Rattle.phases.proofs.free.zero_words.Statement.{statement}
 use Rattle.phases.proofs.free.zero_words.Tie as tie
@@ -15,7 +15,7 @@ abbrev decreases-loop : tie.decreases-loop
 decreases-loop heap₀ a n i₀ heap i = n - i
 
 loop-holds : tie.Need-loop-init invariant-loop decreases-loop
-loop-holds c = (zeroing-begin _ _ _, refl)
+loop-holds c = (zeroing_begin _ _ _, refl)
 
 add-heap : tie.Need-overflow-add-heap invariant-loop decreases-loop
 add-heap c = search rules
@@ -35,13 +35,13 @@ loop-less c = search rules
 loop-again : tie.Need-loop-preserved invariant-loop decreases-loop
 loop-again c =
     let loop = c.before.loop in
-    (zeroing-turn _ _ _ _ _ loop.invariant.0 c.loop-test.true, rw length-set loop.invariant.1)
+    (zeroing_turn _ _ _ _ _ loop.invariant.0 c.loop-test.true, rw length-set loop.invariant.1)
 
 same_length : tie.Need-same-length invariant-loop decreases-loop
 same_length c = c.before.loop.invariant.1
 
 returns : tie.Need-returns invariant-loop decreases-loop
-returns c = zeroing-end _ _ _ _ _ c.before.loop.invariant.0 c.loop-test.false
+returns c = zeroing_end _ _ _ _ _ c.before.loop.invariant.0 c.loop-test.false
 
 pub zero-words-spec : {M : Type 1} → statement M
 zero-words-spec =

@@ -3,17 +3,17 @@ use mathlib.Core.Path.{◌≡◌, refl, ◌∙◌}
 use Prim.Native.Nat.{◌+◌, ◌*◌, ◌-◌, ◌≤◌}
 use native.Mathlib.Omega.{arith}
 use lib.ListN.{length}
-use Rattle.rules.specs.Collection.{sweepQueue}
+use Rattle.rules.specs.Collection.{sweep_queue}
 use Rattle.laws.specs.Safe.{SafePage}
 use Rattle.hints.specs.Code.{plan}
 use Rattle.copies.specs.Code.{state_of, Tied}
-use Rattle.phases.proofs.Sweeping.{Queue, queue-end, queue-safe, queue-turn}
+use Rattle.phases.proofs.Sweeping.{Queue, queue_end, queue_safe, queue_turn}
 use borrow.Author.Rules.{rules}
 use Rattle.phases.proofs.sweep.sweep_queue.Statement.{statement}
 use Rattle.phases.proofs.sweep.sweep_queue.Tie as tie
 
 abbrev invariant-loop : tie.invariant-loop
-invariant-loop heap₀ labels₀ links₀ k g₀ head₀ heap labels links g head = (Queue (plan k) (sweepQueue (plan k) k.pages 0 (state_of heap₀ labels₀ links₀ g₀)) (state_of heap labels links g) head × Tied k labels links g)
+invariant-loop heap₀ labels₀ links₀ k g₀ head₀ heap labels links g head = (Queue (plan k) (sweep_queue (plan k) k.pages 0 (state_of heap₀ labels₀ links₀ g₀)) (state_of heap labels links g) head × Tied k labels links g)
     × ((length heap ≡ length heap₀) × (length labels ≡ length labels₀) × (length links ≡ length links₀))
 
 abbrev decreases-loop : tie.decreases-loop
@@ -27,7 +27,7 @@ page : (c : tie.After-wide invariant-loop decreases-loop) →
     × SafePage (plan args.k) args.k.page (c.wide.result * args.k.page) args.k.page (state_of loop.heap loop.labels loop.links loop.g)
 page c =
     let loop = c.before.before.before.before.loop in
-    rw c.wide.ensures (queue-safe c.before.before.before.before.before.before.before.before.args.k _ loop.heap loop.labels loop.links loop.g _ loop.invariant.0.0 loop.invariant.0.1.queued (loop.invariant.1.2 ∙ c.before.before.before.before.before.before.before.before.requires.0) c.before.before.if1.true)
+    rw c.wide.ensures (queue_safe c.before.before.before.before.before.before.before.before.args.k _ loop.heap loop.labels loop.links loop.g _ loop.invariant.0.0 loop.invariant.0.1.queued (loop.invariant.1.2 ∙ c.before.before.before.before.before.before.before.before.requires.0) c.before.before.if1.true)
 
 loop-holds : tie.Need-loop-init invariant-loop decreases-loop
 loop-holds c =
@@ -75,7 +75,7 @@ loop-again c =
     let inv = loop.invariant in
     let call = c.before.before.before.before.before.before.sweep-page in (
       (
-        queue-turn c.before.before.before.before.before.before.before.before.before.before.before.before.before.before.before.before.before.before.before.args.k _ loop.heap loop.labels loop.links loop.g _ inv.0.0 inv.0.1.queued (inv.1.2 ∙ c.before.before.before.before.before.before.before.before.before.before.before.before.before.before.before.before.before.before.before.requires.0) c.before.before.before.before.before.before.before.before.before.before.before.before.before.if1.true _ (call.ensures.0 ∙ rw c.before.before.before.before.before.before.before.before.before.before.before.wide.ensures),
+        queue_turn c.before.before.before.before.before.before.before.before.before.before.before.before.before.before.before.before.before.before.before.args.k _ loop.heap loop.labels loop.links loop.g _ inv.0.0 inv.0.1.queued (inv.1.2 ∙ c.before.before.before.before.before.before.before.before.before.before.before.before.before.before.before.before.before.before.before.requires.0) c.before.before.before.before.before.before.before.before.before.before.before.before.before.if1.true _ (call.ensures.0 ∙ rw c.before.before.before.before.before.before.before.before.before.before.before.wide.ensures),
         call.ensures.1,
       ),
       (call.auto.0 ∙ inv.1.0, call.auto.1.0 ∙ inv.1.1, call.auto.1.1.0 ∙ inv.1.2),
@@ -93,7 +93,7 @@ same-length-3 c = c.before.before.loop.invariant.1.2
 returns : tie.Need-returns invariant-loop decreases-loop
 returns c =
     let loop = c.before.before.loop in
-    (queue-end c.before.before.before.before.before.before.args.k _ loop.heap loop.labels loop.links loop.g _ loop.invariant.0.0 loop.invariant.0.1.queued (loop.invariant.1.2 ∙ c.before.before.before.before.before.before.requires.0) c.if1.false, loop.invariant.0.1)
+    (queue_end c.before.before.before.before.before.before.args.k _ loop.heap loop.labels loop.links loop.g _ loop.invariant.0.0 loop.invariant.0.1.queued (loop.invariant.1.2 ∙ c.before.before.before.before.before.before.requires.0) c.if1.false, loop.invariant.0.1)
 
 pub sweep-queue-spec : {M : Type 1} → statement M
 sweep-queue-spec =

@@ -3,16 +3,16 @@ use mathlib.Core.Path.{◌≡◌, refl, ◌∙◌}
 use Prim.Native.Nat.{◌-◌}
 use native.Mathlib.Omega.{arith}
 use lib.ListN.{length, length-set}
-use Rattle.rules.specs.Collection.{sweepReferences}
+use Rattle.rules.specs.Collection.{sweep_references}
 use Rattle.hints.specs.Code.{plan}
 use Rattle.copies.specs.Code.{state_of, Tied}
-use Rattle.phases.proofs.Sweeping.{References, references-end, references-safe, references-turn, reference-is}
+use Rattle.phases.proofs.Sweeping.{References, references_end, references_safe, references_turn, reference_is}
 use borrow.Author.Rules.{rules}
 use Rattle.phases.proofs.sweep.sweep_references.Statement.{statement}
 use Rattle.phases.proofs.sweep.sweep_references.Tie as tie
 
 abbrev invariant-loop : tie.invariant-loop
-invariant-loop heap₀ labels₀ links₀ k first stop g₀ w₀ heap labels links g w = (References (plan k) stop (sweepReferences (plan k) (stop - first) first (state_of heap₀ labels₀ links₀ g₀)) (state_of heap labels links g) w × Tied k labels links g)
+invariant-loop heap₀ labels₀ links₀ k first stop g₀ w₀ heap labels links g w = (References (plan k) stop (sweep_references (plan k) (stop - first) first (state_of heap₀ labels₀ links₀ g₀)) (state_of heap labels links g) w × Tied k labels links g)
     × ((length heap ≡ length heap₀) × (length labels ≡ length labels₀) × (length links ≡ length links₀))
 
 abbrev decreases-loop : tie.decreases-loop
@@ -32,7 +32,7 @@ slice-read-value c = search rules
 forward-requires : tie.Need-forward-requires invariant-loop decreases-loop
 forward-requires c κs =
     let loop = c.before.before.before.before.before.loop in
-    (references-safe _ _ _ _ _ loop.invariant.0.0 c.before.before.before.before.loop-test.true, loop.invariant.0.1)
+    (references_safe _ _ _ _ _ loop.invariant.0.0 c.before.before.before.before.loop-test.true, loop.invariant.0.1)
 
 mul-heap : tie.Need-overflow-mul-heap invariant-loop decreases-loop
 mul-heap c = omega (arith, c.before.before.before.before.before.before.forward.auto.0, c.before.before.before.before.before.before.before.before.before.before.before.before.loop.invariant.1.0, c.before.before.before.before.before.before.before.before.before.before.before.before.before.before.before.before.requires.0, c.before.before.before.before.before.before.before.before.before.before.before.before.before.before.before.before.well-formed)
@@ -51,7 +51,7 @@ loop-again c =
     let loop = c.before.before.before.before.before.before.before.before.before.before.before.before.before.loop in
     let inv = loop.invariant in
     let call = c.before.before.before.before.before.before.before.forward in (
-      (references-turn _ _ _ _ _ inv.0.0 c.before.before.before.before.before.before.before.before.before.before.before.before.loop-test.true _ (reference-is _ _ _ _ _ call.new.1.1.0 call.result.gather (state_of loop.heap loop.labels loop.links loop.g) call.ensures.0), call.ensures.1),
+      (references_turn _ _ _ _ _ inv.0.0 c.before.before.before.before.before.before.before.before.before.before.before.before.loop-test.true _ (reference_is _ _ _ _ _ call.new.1.1.0 call.result.gather (state_of loop.heap loop.labels loop.links loop.g) call.ensures.0), call.ensures.1),
       (rw length-set (call.auto.0 ∙ inv.1.0), call.auto.1.0 ∙ inv.1.1, call.auto.1.1.0 ∙ inv.1.2),
     )
 
@@ -67,7 +67,7 @@ same-length-3 c = c.before.loop.invariant.1.2
 returns : tie.Need-returns invariant-loop decreases-loop
 returns c =
     let loop = c.before.loop in
-    (references-end _ _ _ _ _ loop.invariant.0.0 c.loop-test.false, loop.invariant.0.1)
+    (references_end _ _ _ _ _ loop.invariant.0.0 c.loop-test.false, loop.invariant.0.1)
 
 pub sweep-references-spec : {M : Type 1} → statement M
 sweep-references-spec =

@@ -1,7 +1,7 @@
 -- `steps::play::allocate` meets its contract: an accepted call's address is put into the root cell, and a refused one changed
 -- nothing. Assumes nothing.
 use Rattle.steps.specs.Code.{playing}
-use Rattle.steps.proofs.Stepping.{allocated, not-allocated}
+use Rattle.steps.proofs.Stepping.{allocated, not_allocated}
 use Rattle.std.proofs.Common.{rules}
 use Rattle.steps.proofs.play.allocate.Statement.{statement}
 use Rattle.steps.proofs.play.allocate.Tie as tie
@@ -39,7 +39,7 @@ returns-2 c =
     λ hints.
     let a = c.before.before.before.before.before.before.before.before.before.before.before.before.args in
     let s = playing a.heap.now a.labels.now a.links.now a.roots.now hints a.r in
-    not-allocated s a.x a.d a.p _ c.before.before.before.before.before.allocate.ensures c.if1.false
+    not_allocated s a.x a.d a.p _ c.before.before.before.before.before.allocate.ensures c.if1.false
 
 pub allocate_spec : {M : Type 1} → statement M
 allocate_spec =

@@ -1,7 +1,7 @@
 -- `steps::play::perform` meets its contract: each arm is its call's. Assumes nothing.
 use Rattle.std.proofs.Common.{◌≡◌, ℕ, true, false, sym, ap, ◌∙◌, arith, rules}
 use Rattle.steps.specs.Session.{accepted, refused, perform}
-use Rattle.steps.specs.Code.{isStart}
+use Rattle.steps.specs.Code.{is_start}
 use Rattle.steps.proofs.play.perform.Statement.{statement}
 use Rattle.steps.proofs.play.perform.Tie as tie
 
@@ -157,7 +157,7 @@ returns-7 : tie.Need-returns-7
 returns-7 c = rw c.before.before.before.before.before.before.asked6.given.1 (c.look_up.ensures _)
 
 returns-8 : tie.Need-returns-8
-returns-8 c = absurd (no_start (sym (ap isStart c.before.enum-told2.given.1) ∙ c.before.before.before.before.before.before.before.before.requires))
+returns-8 c = absurd (no_start (sym (ap is_start c.before.enum-told2.given.1) ∙ c.before.before.before.before.before.before.before.before.requires))
 
 returns-9 : tie.Need-returns-9
 unfolding perform refused

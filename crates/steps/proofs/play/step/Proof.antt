@@ -2,17 +2,17 @@
 -- is the first part of what comes back. Assumes nothing.
 use Rattle.std.proofs.Common.{◌≡◌, true, sym, ap, ◌∙◌, arith, length-take-le, rules}
 use borrow.Author.Tests.{not-true, not-false}
-use Rattle.entries.specs.Entries.{isAllowed}
+use Rattle.entries.specs.Entries.{is_allowed}
 use Rattle.steps.specs.Session.{Session, refused, perform}
 use Rattle.steps.specs.Code.{session}
-use Rattle.steps.proofs.Stepping.{stops, goes, no_start, step-on-part}
+use Rattle.steps.proofs.Stepping.{stops, goes, no_start, step_on_part}
 use Rattle.steps.proofs.play.step.Statement.{statement}
 use Rattle.steps.proofs.play.step.Tie as tie
 
 abbrev entry : (c : tie.Start) → Session
 entry c = session c.args.heap.now c.args.labels.now c.args.links.now c.args.roots.now c.args.hints.now c.args.s
 
-allowed : (c : tie.Else1) → isAllowed c.before.before.before.before.before.before.before.args.s.begun c.before.before.before.before.before.before.before.args.asked ≡ true
+allowed : (c : tie.Else1) → is_allowed c.before.before.before.before.before.before.before.args.s.begun c.before.before.before.before.before.before.before.args.asked ≡ true
 allowed c = sym c.before.is-allowed.ensures ∙ not-false _ c.if1.false
 
 is-allowed-requires : tie.Need-is-allowed-requires
@@ -88,7 +88,7 @@ same-length-10 c = search rules
 returns-3 : tie.Need-returns-3
 returns-3 c =
     let o = c.before.before.before.before.before.before.before.before.before.before.before.perform in
-    (step-on-part c.before.before.before.before.before.before.before.before.before.before.before.before.before.before.before.before.before.before.before.before.before.before.before.before.before.before.requires.0 c.before.before.before.before.before.before.before.before.before.before.before.before.before.before.before.before.before.before.before.before.before.before.before.before.before.before.args.s c.before.before.before.before.before.before.before.before.before.before.before.before.before.before.before.before.before.before.before.before.before.before.before.before.before.before.requires.1 c.before.before.before.before.before.before.before.before.before.before.before.before.before.before.before.before.before.before.before.before.before.before.before.before.before.before.args.asked (no_start c.before.before.before.before.before.before.before.before.before.before.before.before.before.before.before.before.before.before.before.before.before.before.before.before.before.before.args.asked c.before.before.before.before.before.before.before.before.before.before.before.before.before.before.before.before.before.before.match.keys2) (allowed c.before.before.before.before.before.before.before.before.before.before.before.before.before.before.before.before.before.before.before) o.result o.new.0 o.new.1.0 o.new.1.1.0 o.new.1.1.1.0 o.new.1.1.1.1.0 (record { heap = o.auto.0; labels = o.auto.1.0; links = o.auto.1.1.0 }) o.ensures, record { words = c.before.before.before.before.before.before.before.before.before.before.before.before.before.before.before.before.before.before.before.before.before.before.before.before.before.before.requires.1.words; pages = c.before.before.before.before.before.before.before.before.before.before.before.before.before.before.before.before.before.before.before.before.before.before.before.before.before.before.requires.1.pages })
+    (step_on_part c.before.before.before.before.before.before.before.before.before.before.before.before.before.before.before.before.before.before.before.before.before.before.before.before.before.before.requires.0 c.before.before.before.before.before.before.before.before.before.before.before.before.before.before.before.before.before.before.before.before.before.before.before.before.before.before.args.s c.before.before.before.before.before.before.before.before.before.before.before.before.before.before.before.before.before.before.before.before.before.before.before.before.before.before.requires.1 c.before.before.before.before.before.before.before.before.before.before.before.before.before.before.before.before.before.before.before.before.before.before.before.before.before.before.args.asked (no_start c.before.before.before.before.before.before.before.before.before.before.before.before.before.before.before.before.before.before.before.before.before.before.before.before.before.before.args.asked c.before.before.before.before.before.before.before.before.before.before.before.before.before.before.before.before.before.before.match.keys2) (allowed c.before.before.before.before.before.before.before.before.before.before.before.before.before.before.before.before.before.before.before) o.result o.new.0 o.new.1.0 o.new.1.1.0 o.new.1.1.1.0 o.new.1.1.1.1.0 (record { heap = o.auto.0; labels = o.auto.1.0; links = o.auto.1.1.0 }) o.ensures, record { words = c.before.before.before.before.before.before.before.before.before.before.before.before.before.before.before.before.before.before.before.before.before.before.before.before.before.before.requires.1.words; pages = c.before.before.before.before.before.before.before.before.before.before.before.before.before.before.before.before.before.before.before.before.before.before.before.before.before.before.requires.1.pages })
 
 pub step_spec : {M : Type 1} → statement M
 step_spec =

@@ -5,8 +5,8 @@ use Rattle.std.proofs.Common.{sym, ap, ◌∙◌}
 use Rattle.rules.specs.declared.Answer.{Answer}
 use Rattle.rules.specs.declared.Collected.{Collected}
 use Rattle.rules.specs.Lent.{Lent, lent}
-use Rattle.rules.specs.Calls.{Outcome, outcome, start, allocate, lookUp, load, store}
-use Rattle.rules.specs.Collect.{CollectOutcome, collectOutcome, collect}
+use Rattle.rules.specs.Calls.{Outcome, outcome, start, allocate, look_up, load, store}
+use Rattle.rules.specs.Collect.{CollectOutcome, collect_outcome, collect}
 
 -- what a call other than collect leaves: its answer, heap, labels and links
 pub record Left : Type 0 where
@@ -27,7 +27,7 @@ abbrev pub Allocates : Lent → ℕ → ℕ → Left → Type 0
 Allocates m d p x = outcome x.answer x.heap x.labels x.links ≡ allocate m d p
 
 abbrev pub LooksUp : Lent → ℕ → Left → Type 0
-LooksUp m a x = outcome x.answer x.heap x.labels x.links ≡ lookUp m a
+LooksUp m a x = outcome x.answer x.heap x.labels x.links ≡ look_up m a
 
 abbrev pub Loads : Lent → ℕ → ℕ → Left → Type 0
 Loads m a i x = outcome x.answer x.heap x.labels x.links ≡ load m a i
@@ -43,19 +43,19 @@ pub record LeftCollected : Type 0 where
   pub links : List ℕ
   pub roots : List ℕ
 
-abbrev pub heldCollected : LeftCollected → Lent
-heldCollected x = lent x.heap x.labels x.links x.answer.rec
+abbrev pub held_collected : LeftCollected → Lent
+held_collected x = lent x.heap x.labels x.links x.answer.rec
 
-abbrev pub outcomeLeft : LeftCollected → CollectOutcome
-outcomeLeft x = collectOutcome x.answer x.heap x.labels x.links x.roots
+abbrev pub outcome_left : LeftCollected → CollectOutcome
+outcome_left x = collect_outcome x.answer x.heap x.labels x.links x.roots
 
 abbrev pub Collects : Lent → List ℕ → List ℕ → LeftCollected → Type 0
-Collects m roots hints x = outcomeLeft x ≡ collect m roots hints
+Collects m roots hints x = outcome_left x ≡ collect m roots hints
 
 -- ---- they determine: answer and memory are read back from the outcome
 
-abbrev outcome-left : Outcome → Left
-outcome-left o = record {
+abbrev outcome_left_lem : Outcome → Left
+outcome_left_lem o = record {
   answer = record { refusal = o.refusal; value = o.value; rec = o.lent.rec };
   heap = o.lent.heap;
   labels = o.lent.labels;
@@ -64,25 +64,25 @@ outcome-left o = record {
 
 -- two that leave the same outcome leave the same
 pub same_left : (o : Outcome) (x y : Left) → outcome x.answer x.heap x.labels x.links ≡ o → outcome y.answer y.heap y.labels y.links ≡ o → x ≡ y
-same_left o x y p q = ap outcome-left (p ∙ sym q)
+same_left o x y p q = ap outcome_left_lem (p ∙ sym q)
 
-pub starts-once : (m : Lent) (P T : ℕ) (x y : Left) → Starts m P T x → Starts m P T y → x ≡ y
-starts-once m P T = same_left (start m P T)
+pub starts_once : (m : Lent) (P T : ℕ) (x y : Left) → Starts m P T x → Starts m P T y → x ≡ y
+starts_once m P T = same_left (start m P T)
 
-pub allocates-once : (m : Lent) (d p : ℕ) (x y : Left) → Allocates m d p x → Allocates m d p y → x ≡ y
-allocates-once m d p = same_left (allocate m d p)
+pub allocates_once : (m : Lent) (d p : ℕ) (x y : Left) → Allocates m d p x → Allocates m d p y → x ≡ y
+allocates_once m d p = same_left (allocate m d p)
 
-pub looks-up-once : (m : Lent) (a : ℕ) (x y : Left) → LooksUp m a x → LooksUp m a y → x ≡ y
-looks-up-once m a = same_left (lookUp m a)
+pub looks_up_once : (m : Lent) (a : ℕ) (x y : Left) → LooksUp m a x → LooksUp m a y → x ≡ y
+looks_up_once m a = same_left (look_up m a)
 
 pub loads_once : (m : Lent) (a i : ℕ) (x y : Left) → Loads m a i x → Loads m a i y → x ≡ y
 loads_once m a i = same_left (load m a i)
 
-pub stores-once : (m : Lent) (a i v : ℕ) (x y : Left) → Stores m a i v x → Stores m a i v y → x ≡ y
-stores-once m a i v = same_left (store m a i v)
+pub stores_once : (m : Lent) (a i v : ℕ) (x y : Left) → Stores m a i v x → Stores m a i v y → x ≡ y
+stores_once m a i v = same_left (store m a i v)
 
-abbrev outcome-collected : CollectOutcome → LeftCollected
-outcome-collected o = record {
+abbrev outcome_collected : CollectOutcome → LeftCollected
+outcome_collected o = record {
   answer = record { refusal = o.refusal; hinted = o.hinted; taken = o.taken; objects = o.objects; words = o.words; kept = o.kept; fillers = o.fillers; rec = o.lent.rec };
   heap = o.lent.heap;
   labels = o.lent.labels;
@@ -90,5 +90,5 @@ outcome-collected o = record {
   roots = o.roots;
 }
 
-pub collects-once : (m : Lent) (roots hints : List ℕ) (x y : LeftCollected) → Collects m roots hints x → Collects m roots hints y → x ≡ y
-collects-once m roots hints x y p q = ap outcome-collected (p ∙ sym q)
+pub collects_once : (m : Lent) (roots hints : List ℕ) (x y : LeftCollected) → Collects m roots hints x → Collects m roots hints y → x ≡ y
+collects_once m roots hints x y p q = ap outcome_collected (p ∙ sym q)
