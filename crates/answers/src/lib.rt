@@ -1,5 +1,8 @@
 // What a call answers: its refusal, its value, and the record as it leaves it. Every function here answers every input, and equals its
 // definition in `rules` there.
+
+#![tactic(auto)]
+
 ghost use Rattle.std.specs.Prelude.{◌≡◌, List, ℕ};
 ghost use Rattle.rules.specs.Lent.{lent};
 ghost use Rattle.rules.specs.Calls.{outcome, refused, inside, accepted, told};

@@ -1,4 +1,7 @@
 // Collect: its tests in the order 1, 7, 6, and then the four steps. Nothing lent is changed before all tests have passed.
+
+#![tactic(auto)]
+
 ghost use Rattle.std.specs.Prelude.{◌≡◌, List, ℕ};
 ghost use Rattle.rules.specs.Ranges.{each};
 ghost use Rattle.rules.specs.Lent.{lent};

@@ -1,6 +1,9 @@
 // Forwarding: pages taken for copies, the copy of an object, pages kept where there is no room for one, one
 // value, and step 2, the roots. These are no calls for users: they are safe only where the tests of collect
 // have passed, and their `requires` say so, as in `phases`.
+
+#![tactic(auto)]
+
 ghost use Rattle.std.specs.Prelude.{◌≡◌, ◌⊎◌, List, ℕ, ◌+◌, ◌/◌, ◌≤◌, ◌<◌, length, take, drop};
 ghost use Rattle.std.proofs.lemmas.List.Edits.{sets};
 ghost use Rattle.rules.specs.Ranges.{at};
@@ -18,7 +21,7 @@ use numbers::header;
 // The state of a collection beside the lent slices. The queue is links[0..tail); no page below the cursor
 // is free; copies go to the page `copy`, 0 before the first, at its fill; the last `kept` pages of the queue
 // were kept for want of room; objects and words were copied.
-#[derive(Drop)]
+#[derive(Clone, Copy)]
 pub struct Gather {
     pub tail: u32,
     pub cursor: u32,
@@ -71,7 +74,7 @@ impl Gather {
 }
 
 // What forwarding gives: the value, and the state after it.
-#[derive(Drop)]
+#[derive(Clone, Copy)]
 pub struct Moved {
     pub value: u32,
     pub gather: Gather,

@@ -1,12 +1,15 @@
 // Records of 8 bytes, read one at a time from a lent buffer, and the step that each asks for. They are called entries:
 // `Record` is the control record.
+
+#![tactic(auto)]
+
 pub mod reader;
 
 ghost use Rattle.std.specs.Prelude.{◌≡◌, [], ◌∷◌, ◌+◌, ◌<◌, ◌≤◌, length};
 ghost use Rattle.entries.specs.Entries.{word_at, entry_at, next_at, decode, may_use, is_allowed};
 
 // Operation, x, y and i, a byte each, and v.
-#[derive(Drop)]
+#[derive(Clone, Copy)]
 pub struct Entry {
     pub op: u32,
     pub x: u32,
@@ -16,7 +19,7 @@ pub struct Entry {
 }
 
 // What stands at a place of the buffer: a whole entry, one to seven bytes, or nothing.
-#[derive(Drop)]
+#[derive(Clone, Copy)]
 pub enum Next {
     Whole(Entry),
     Partial,
@@ -24,14 +27,14 @@ pub enum Next {
 }
 
 // What a store puts: the value of a root cell, or a number.
-#[derive(Drop)]
+#[derive(Clone, Copy)]
 pub enum Operand {
     Root(u32),
     Number(u32),
 }
 
 // What an entry asks for; slots are named x and y, as in the entry.
-#[derive(Drop)]
+#[derive(Clone, Copy)]
 pub enum Step {
     Start { page: u32, pages: u32 },
     Allocate { x: u32, d: u32, p: u32 },
@@ -62,7 +65,7 @@ fn word_at(bytes: &[u8], a: usize) -> u32
 }
 
 // A place in the buffer, which moves from entry to entry.
-#[derive(Drop)]
+#[derive(Clone, Copy)]
 pub struct Cursor {
     pub at: usize,
 }

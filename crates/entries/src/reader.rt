@@ -13,7 +13,7 @@ pub struct Reader<'a> {
 }
 
 // What was read at a place, and the place one entry on.
-#[derive(Drop)]
+#[derive(Clone, Copy)]
 pub struct Reading {
     pub next: Next,
     pub at: usize,

@@ -2,6 +2,9 @@
 // stayed. A walk goes on over such a place by the length at the copy; in step 4, when nothing is forwarded any
 // more, it becomes a filler, of the same length, no references, zeros. These are no calls for users: they are
 // safe only where the tests of collect have passed, and their `requires` say so, as in `phases`.
+
+#![tactic(auto)]
+
 ghost use Rattle.std.specs.Prelude.{◌≡◌, true, [], ◌+◌, ◌-◌, ◌≤◌, length, take, drop};
 ghost use Rattle.rules.specs.Collection.{is_left, fill_page, fill_pages};
 ghost use Rattle.laws.specs.Safe.{SafeStep, SafeFill, SafeFills};

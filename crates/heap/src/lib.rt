@@ -1,5 +1,8 @@
 // Start and allocate over lent memory. Each answers every input: its contract is one equation with its definition in `rules`, refusals
 // included. The checks go in the order of the table of refusals.
+
+#![tactic(auto)]
+
 pub mod object;
 
 ghost use Rattle.std.specs.Prelude.{◌≡◌};

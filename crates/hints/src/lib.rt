@@ -2,6 +2,9 @@
 // There is no copy page yet, so the queue's length is all that the code keeps beside the lent slices. These
 // are no calls for users: they are safe only where tests of collect have passed, and their `requires` say
 // so, as in `phases`.
+
+#![tactic(auto)]
+
 ghost use Rattle.std.specs.Prelude.{◌≡◌, [], ◌∷◌, ◌++◌, ◌+◌, ◌≤◌, ◌<◌, length, set, take};
 ghost use Rattle.rules.specs.Pages.{pages_of_hint, pages_named};
 ghost use Rattle.rules.specs.Collection.{hint_page, hint_pages};
@@ -13,7 +16,7 @@ use layout::record;
 use numbers::pages;
 
 // What stays the same during a collection: P, T, the old label and the new one.
-#[derive(Drop)]
+#[derive(Clone, Copy)]
 pub struct Shape {
     pub page: u32,
     pub pages: u32,

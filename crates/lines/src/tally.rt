@@ -6,7 +6,7 @@ ghost use Rattle.lines.specs.Lines.{none, noted};
 ghost use Rattle.lines.specs.Put.{Adds};
 
 // How many records there were, how many of them were accepted, and how many refused.
-#[derive(Drop)]
+#[derive(Clone, Copy)]
 pub struct Tally {
     pub records: u32,
     pub accepted: u32,

@@ -1,5 +1,8 @@
 // Look-up, load and store: the calls with an address. Each answers every input: its contract is one equation with its definition in
 // `rules`, refusals included. The checks go in the order of the table of refusals.
+
+#![tactic(auto)]
+
 ghost use Rattle.std.specs.Prelude.{◌≡◌, List, ℕ};
 ghost use Rattle.rules.specs.Lent.{lent};
 ghost use Rattle.rules.specs.Calls.{outcome, look_up, load, may_store, store};

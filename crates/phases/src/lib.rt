@@ -2,6 +2,9 @@
 // no calls for users. What `run` and its helpers do is safe only where the tests of collect have passed:
 // their `requires` say so, by the predicates of `laws` (Safe.antt) that follow the definitions step by
 // step. Under it each equals its definition in `rules` (Collection.antt).
+
+#![tactic(auto)]
+
 pub mod free;
 pub mod sweep;
 

@@ -1,12 +1,13 @@
 // The shapes that the definitions and the code share: the control record, what a call answers, and
 // what is found at an address. They cross to C as they stand, so every number is 32 bits wide.
+#![tactic(auto)]
 
 ghost use Rattle.std.specs.Prelude.{◌≡◌};
 ghost use Rattle.rules.specs.Lent.{opening, relabelled};
 
 // The control record: P, T, current label, open page, fill. It goes in by value and comes back.
 #[repr(C)]
-#[derive(Drop)]
+#[derive(Clone, Copy)]
 pub struct Record {
     pub page: u32,
     pub pages: u32,
@@ -37,7 +38,7 @@ impl Record {
 // What start, allocate, look-up, load and store answer: the refusal's number, 0 if accepted; the value,
 // 0 if refused but for refusal 10; and the record.
 #[repr(C)]
-#[derive(Drop)]
+#[derive(Clone, Copy)]
 pub struct Answer {
     pub refusal: u32,
     pub value: u32,
@@ -47,7 +48,7 @@ pub struct Answer {
 // What collect answers: the refusal's number, 0 if accepted; pages hinted, pages taken, objects copied,
 // words copied, pages kept and fillers, six zeros if refused; and the record.
 #[repr(C)]
-#[derive(Drop)]
+#[derive(Clone, Copy)]
 pub struct Collected {
     pub refusal: u32,
     pub hinted: u32,
@@ -61,7 +62,7 @@ pub struct Collected {
 
 // Where an address lands: on the start of an object, with its header; inside the object that starts
 // at an address; or on nothing.
-#[derive(Drop)]
+#[derive(Clone, Copy)]
 pub enum Found {
     Start(u32),
     Inside(u32),

@@ -1,5 +1,8 @@
 // The calls for the native solver and anyone else who writes C: include/fouterpin.h. They have no `requires`, since nobody
 // checks a C caller, and each is thin over the proved call of the same name. A slice crosses as a pointer and a count.
+
+#![tactic(auto)]
+
 ghost use Rattle.std.specs.Prelude.{◌≡◌};
 ghost use Rattle.rules.specs.Pages.{page_named_to_c, page_named_before_to_c, pages_needed_to_c};
 ghost use Rattle.rules.specs.Lent.{lent};

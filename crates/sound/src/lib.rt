@@ -1,5 +1,8 @@
 // Whether the heap is sound, for any memory and record. Each page is read once, for its walk and its zeros, and each
 // reference once; testing a reference costs the walk of the page that it names.
+
+#![tactic(auto)]
+
 ghost use Rattle.std.specs.Prelude.{◌≡◌, List, cond, true, eqb, ℕ, ◌+◌, ◌≤◌};
 ghost use Rattle.rules.specs.Ranges.{at, block, each};
 ghost use Rattle.rules.specs.Lent.{lent};

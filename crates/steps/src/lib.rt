@@ -1,3 +1,6 @@
 // One step of the session of document 01, on its state.
+
+#![tactic(auto)]
+
 mod cells;
 pub mod play;

@@ -12,7 +12,7 @@ use numbers::pages;
 use rules::{Answer, Record};
 
 // Whether a start was accepted; how many words of the heap and how many pages it asked for; and the control record.
-#[derive(Drop)]
+#[derive(Clone, Copy)]
 pub struct Progress {
     pub begun: bool,
     pub words: usize,
@@ -41,7 +41,7 @@ impl Progress {
 }
 
 // A record's answer: the refusal's number, 0 if accepted; the value, 0 if refused but for 10; and the progress.
-#[derive(Drop)]
+#[derive(Clone, Copy)]
 pub struct Reply {
     pub refusal: u32,
     pub value: u32,
