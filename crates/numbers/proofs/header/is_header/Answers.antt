@@ -4,7 +4,6 @@ use native.Mathlib.Omega.{arith}
 use borrow.Author.Tests.{ne_eqb}
 use Rattle.rules.specs.Header.{is_header}
 use Rattle.laws.specs.Headers.{header_bare, header_room}
-use borrow.Author.Rules.{rules}
 use Rattle.numbers.proofs.header.is_header.Goals as goal
 
 pub returns-then-w-ne1 : goal.returns-then-w-ne1

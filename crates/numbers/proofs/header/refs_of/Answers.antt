@@ -1,7 +1,6 @@
 -- `numbers::header::refs_of` meets its contract. Assumes nothing.
 use Rattle.rules.specs.Header.{refs_of}
 use native.Mathlib.Omega.{arith}
-use borrow.Author.Rules.{rules}
 use Rattle.numbers.proofs.header.refs_of.Goals as goal
 
 pub returns : goal.returns

@@ -1,6 +1,5 @@
 -- `numbers::pages::begins_page` meets its contract. Assumes nothing.
 use native.Mathlib.Nat.{mod-zero}
-use borrow.Author.Rules.{rules}
 use Rattle.numbers.proofs.pages.begins_page.Goals as goal
 
 pub returns-then-page-eq0 : goal.returns-then-page-eq0

@@ -1,10 +1,9 @@
 -- `numbers::pages::is_shape` meets its contract. Assumes nothing.
 use mathlib.Core.Path.{refl, sym, ◌∙◌}
 use mathlib.Core.Bool.{and-false}
-use borrow.Author.Tests.{not-true, not-false, le-leb, lt-leb}
+use borrow.Author.Tests.{le-leb, lt-leb}
 use Rattle.rules.specs.Tests.{and_is}
 use Rattle.rules.specs.Pages.{is_shape}
-use borrow.Author.Rules.{rules}
 use Rattle.numbers.proofs.pages.is_shape.Goals as goal
 
 pub returns-then-not-is_page_size : goal.returns-then-not-is_page_size

@@ -1,7 +1,6 @@
 -- `numbers::pages::page_named` meets its contract. Assumes nothing.
 use mathlib.Core.Path.{sym}
 use Rattle.laws.specs.Pages.{named_none, named_low, named_high, named_is}
-use borrow.Author.Rules.{rules}
 use Rattle.numbers.proofs.pages.page_named.Goals as goal
 
 pub returns-then-page-eq0 : goal.returns-then-page-eq0

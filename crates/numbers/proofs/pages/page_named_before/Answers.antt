@@ -2,7 +2,6 @@
 use mathlib.Core.Path.{sym, ◌∙◌}
 use native.Mathlib.Omega.{arith}
 use Rattle.laws.specs.Pages.{before_none, before_is}
-use borrow.Author.Rules.{rules}
 use Rattle.numbers.proofs.pages.page_named_before.Goals as goal
 
 pub returns-then-word-eq0 : goal.returns-then-word-eq0

@@ -1,8 +1,6 @@
 -- `numbers::pages::page_named_before_checked` meets its contract. Assumes nothing.
 use mathlib.Core.Path.{sym, ◌∙◌}
-use borrow.Author.Tests.{not-true, not-false}
 use Rattle.rules.specs.Pages.{page_named_before_to_c}
-use borrow.Author.Rules.{rules}
 use Rattle.numbers.proofs.pages.page_named_before_checked.Goals as goal
 
 pub returns-then-not-is_shape : goal.returns-then-not-is_shape

@@ -2,11 +2,10 @@
 use mathlib.Core.Path.{◌≡◌, sym, ◌∙◌}
 use mathlib.Core.Bool.{true}
 use native.Mathlib.Omega.{arith}
-use borrow.Author.Tests.{not-true, not-false, le-leb}
+use borrow.Author.Tests.{le-leb}
 use Rattle.rules.specs.Pages.{is_page_size, pages_needed, pages_needed_to_c}
 use Rattle.laws.specs.Pages.{size_bounds}
 use Rattle.laws.specs.Room.{needed_fits}
-use borrow.Author.Rules.{rules}
 use Rattle.numbers.proofs.pages.pages_needed.Goals as goal
 
 pub returns-then-not-is_page_size : goal.returns-then-not-is_page_size
