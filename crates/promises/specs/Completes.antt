@@ -19,7 +19,7 @@ use Rattle.laws.specs.Collect.{ready_is, collect_refusal}
 use Rattle.kept.specs.Accepted.{collect_says}
 use Rattle.theory.specs.Sums.{member_length}
 use Rattle.theory.specs.SoundHeap.{object_nonzero}
-use Rattle.theory.specs.Collections.{collect_faithful, collect_ready}
+use Rattle.theory.proofs.Collections.{collect_faithful, collect_ready}
 
 module _ (m : Lent) (roots hints : List ℕ) where
   -- "every collection of a sound heap with good roots completes"

@@ -12,7 +12,7 @@ use Rattle.laws.specs.Collect.{collect_refusal}
 use Rattle.kept.specs.Start.{start_sound}
 use Rattle.kept.specs.Allocate.{allocate_sound}
 use Rattle.kept.specs.Store.{look_up_same, load_same, store_sound}
-use Rattle.theory.specs.Collections.{collect_keeps_sound, collect_finds, collect_faithful}
+use Rattle.theory.proofs.Collections.{collect_keeps_sound, collect_finds, collect_faithful}
 use Rattle.promises.specs.Completes.{completes}
 
 -- an accepted collection passed its tests

@@ -10,7 +10,8 @@ use Rattle.rules.specs.Collect.{CollectOutcome, accepted_collect, collect}
 use Rattle.rules.specs.Demands.{Faithful, Took}
 use Rattle.rules.specs.InARow.{InARow, Repeats, TwoInARow}
 use Rattle.laws.specs.Collect.{Ready, ready_says, ready_is, collect_refusal, collect_accepts}
-use Rattle.theory.specs.Collections.{collect_faithful, collect_ready, collect_finds, Again, collection_again}
+use Rattle.theory.specs.Collections.{Again}
+use Rattle.theory.proofs.Collections.{collect_faithful, collect_ready, collect_finds, collection_again}
 use Rattle.promises.specs.Unkept.{as_before, unfilled}
 
 module _ (m : Lent) (roots hints : List ℕ) (A : Ready m roots) where

@@ -11,7 +11,7 @@ use Rattle.rules.specs.Demands.{to_start, to_allocate, to_look_up, to_load, to_s
 use Rattle.rules.specs.InARow.{NamesNoneTaken, Repeats}
 use Rattle.kept.specs.Start.{start_sound}
 use Rattle.laws.specs.Collect.{collect_refusal, collect_accepts}
-use Rattle.theory.specs.Collections.{collect_finds, collect_faithful}
+use Rattle.theory.proofs.Collections.{collect_finds, collect_faithful}
 use Rattle.promises.specs.CallContracts.{Left, held, Starts, Allocates, LooksUp, Loads, Stores, LeftCollected, held_collected, outcome_left, Collects}
 use Rattle.promises.specs.Demand3.{call_sound}
 use Rattle.promises.specs.InARow.{two_in_a_row}

@@ -12,7 +12,7 @@ use Rattle.rules.specs.Collect.{pages_unhinted, needed_for, refusal_of_collect, 
 use Rattle.laws.specs.FreePages.{free_pages, used_and_free}
 use Rattle.laws.specs.Room.{needed_never_more}
 use Rattle.laws.specs.Collect.{collect_refusal, collect_accepts}
-use Rattle.theory.specs.Collections.{collect_finds, collect_unkept}
+use Rattle.theory.proofs.Collections.{collect_finds, collect_unkept}
 
 -- "the old figure": 2k' - 1, and 0 where k' is
 abbrev pub old_figure : Lent → List ℕ → ℕ

@@ -12,13 +12,3 @@ pub mod InARow
 pub mod Tests
 pub mod Unfolded
 pub mod Heaps
-pub mod Examples
-pub mod NumberExamples
-pub mod LentExamples
-pub mod WalkExamples
-pub mod SoundExamples
-pub mod CallExamples
-pub mod CollectionExamples
-pub mod CollectExamples
-pub mod InARowExamples
-pub mod Edges

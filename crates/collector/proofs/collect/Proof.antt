@@ -4,7 +4,7 @@ use Rattle.rules.specs.Lent.{Lent, lent}
 use Rattle.rules.specs.Collect.{refusal_of_collect}
 use Rattle.laws.specs.Valid.{valid_layout}
 use Rattle.laws.specs.Collect.{ready_says, collect_accepts, collect_refuses}
-use Rattle.theory.specs.Collections.{collect_safe}
+use Rattle.theory.proofs.Collections.{collect_safe}
 use borrow.Author.Rules.{rules}
 use Rattle.collector.proofs.collect.Statement.{statement}
 use Rattle.collector.proofs.collect.Tie as tie

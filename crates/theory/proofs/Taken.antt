@@ -28,14 +28,14 @@ use Rattle.theory.specs.Sums.{mem_at, at_mem}
 use Rattle.theory.specs.KeptPages.{kept_none, kept_length, kept_at}
 use Rattle.theory.specs.World.{World, went, Place, home, away, LabelledOrKept}
 use Rattle.theory.specs.Stacked.{NextFree}
-use Rattle.theory.specs.Packs.{packs_within, packs_few}
-use Rattle.theory.specs.Good.{Grow, grow_trans}
+use Rattle.theory.proofs.Packs.{packs_within, packs_few}
+use Rattle.theory.proofs.Good.{Grow, grow_trans}
 use Rattle.laws.specs.Collect.{Ready}
 use Rattle.theory.specs.SoundHeap.{other≢0, other≢label, words_are}
 use Rattle.laws.specs.Valid.{label_pos}
-use Rattle.theory.specs.FirstState.{p as pages_of, s as first_of, H, world, labels_length, used_kind, free_stays, was_free as first_free, free_same_pages}
-use Rattle.theory.specs.Run.{W as worldOf, r as rooted_of, t as sweptOf, roots_done, all_done}
-use Rattle.theory.specs.After.{m' as lent_of, inv, tiled, first_place, kept_object, kept_header, new_in_use, in_use_new}
+use Rattle.theory.proofs.FirstState.{p as pages_of, s as first_of, H, world, labels_length, used_kind, free_stays, was_free as first_free, free_same_pages}
+use Rattle.theory.proofs.Run.{W as worldOf, r as rooted_of, t as sweptOf, roots_done, all_done}
+use Rattle.theory.proofs.After.{m' as lent_of, inv, tiled, first_place, kept_object, kept_header, new_in_use, in_use_new}
 
 module _ (m : Lent) (roots hints : List ℕ) (A : Ready m roots) where
   abbrev S : Sound m

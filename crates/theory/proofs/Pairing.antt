@@ -22,19 +22,19 @@ use Rattle.theory.specs.Sums.{mem_at}
 use Rattle.theory.specs.KeptPages.{kept_length, kept_once}
 use Rattle.theory.specs.World.{becomes_map, World, Live, root, stay, ref, Gone, NotGone, Stays, Kept, stayed, went, Place, home, away, KeptPage}
 use Rattle.theory.specs.Places.{SameOrApart, some_words, Standing, there, left, gone_or_not, hinted_label, old_new_kept, kept_obj, kept_apart, kept_from}
-use Rattle.theory.specs.Packs.{packs_within}
+use Rattle.theory.proofs.Packs.{packs_within}
 use Rattle.theory.specs.Causes.{StaysBy, ReachedBy as ReachedWith, Cause}
-use Rattle.theory.specs.Good.{kept_reach}
+use Rattle.theory.proofs.Good.{kept_reach}
 use Rattle.theory.specs.Fillers.{filler_size, filler_refs}
 use Rattle.laws.specs.Collect.{Ready}
 use Rattle.theory.specs.SoundHeap.{other≢label, in_use, object_nonzero}
 use Rattle.laws.specs.Objects.{page_pos}
 use Rattle.laws.specs.Valid.{label_pos}
-use Rattle.theory.specs.FirstState.{world, hinted_new, new_hinted, used_kind, free_stays}
-use Rattle.theory.specs.Run.{W as worldOf, r as rooted_of, t as sweptOf, roots_done, all_done}
-use Rattle.theory.specs.After.{m' as lent_of, inv, tiled, copy_stop, after_sound, F as filled_of, first_place, kept_object, object_standing, left_object, left_header, left_zeros, kept_word, kept_header, kept_reference, new_in_use, in_use_new}
+use Rattle.theory.proofs.FirstState.{world, hinted_new, new_hinted, used_kind, free_stays}
+use Rattle.theory.proofs.Run.{W as worldOf, r as rooted_of, t as sweptOf, roots_done, all_done}
+use Rattle.theory.proofs.After.{m' as lent_of, inv, tiled, copy_stop, after_sound, F as filled_of, first_place, kept_object, object_standing, left_object, left_header, left_zeros, kept_word, kept_header, kept_reference, new_in_use, in_use_new}
 use Rattle.theory.specs.Plainly.{unlogged}
-use Rattle.theory.specs.Taken.{free_taken, taken_in_use, last_copy}
+use Rattle.theory.proofs.Taken.{free_taken, taken_in_use, last_copy}
 
 module _ (m : Lent) (roots hints : List ℕ) (A : Ready m roots) where
   abbrev S : Sound m

@@ -31,8 +31,8 @@ use Rattle.laws.specs.Collect.{Ready}
 use Rattle.theory.specs.SoundHeap.{layout, other_label_lem, other≢0, other≢label}
 use Rattle.laws.specs.Objects.{page_pos}
 use Rattle.laws.specs.Valid.{label_pos}
-use Rattle.theory.specs.FirstState.{world, labels_length, used_kind, free_stays}
-use Rattle.theory.specs.Run.{W as worldOf, t as sweptOf, all_done, filled}
+use Rattle.theory.proofs.FirstState.{world, labels_length, used_kind, free_stays}
+use Rattle.theory.proofs.Run.{W as worldOf, t as sweptOf, all_done, filled}
 
 module _ (m : Lent) (roots hints : List ℕ) (A : Ready m roots) where
   -- the labels, the heap and all that is lent after

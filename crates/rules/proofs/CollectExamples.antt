@@ -10,7 +10,7 @@ use Rattle.rules.specs.Collection.{plainly, collection}
 use Rattle.rules.specs.Collect.{pages_unhinted, words_unhinted, needed_for, CollectOutcome, collect_outcome, collect}
 use Rattle.rules.specs.Unfolded.{the_rules}
 use Rattle.rules.specs.Heaps.{control, fresh, page, memory, under}
-use Rattle.rules.specs.Examples.{record8, roots8}
+use Rattle.rules.proofs.Examples.{record8, roots8}
 
 -- ---- memory
 

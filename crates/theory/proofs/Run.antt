@@ -11,11 +11,11 @@ use Rattle.rules.specs.Collection.{logged, State, Rooted, plan_of, after_roots, 
 use Rattle.laws.specs.Safe.{SafeRoots, SafeQueue, SafeRun}
 use Rattle.theory.specs.Sums.{at_mem}
 use Rattle.theory.specs.World.{World}
-use Rattle.theory.specs.Packs.{packs_within, words_old_lem}
+use Rattle.theory.proofs.Packs.{packs_within, words_old_lem}
 use Rattle.theory.specs.FillPages.{FilledAll, filled_all}
-use Rattle.theory.specs.SweepQueue.{Cells, RootsDone, AllDone, forward_roots_lem, sweep_queue_lem, queue_length}
+use Rattle.theory.proofs.SweepQueue.{Cells, RootsDone, AllDone, forward_roots_lem, sweep_queue_lem, queue_length}
 use Rattle.laws.specs.Collect.{Ready}
-use Rattle.theory.specs.FirstState.{s, world, first_good, hints_run_safe, labels_length}
+use Rattle.theory.proofs.FirstState.{s, world, first_good, hints_run_safe, labels_length}
 
 module _ (m : Lent) (roots hints : List ℕ) (A : Ready m roots) where
   abbrev pub W : World

@@ -6,10 +6,10 @@ use Rattle.rules.specs.Ranges.{at}
 use Rattle.rules.specs.Collection.{State, forward, sweep_reference, sweep_references}
 use Rattle.theory.specs.World.{refs_at, World, Kept}
 use Rattle.theory.specs.Store.{stored, kept_back}
-use Rattle.theory.specs.Good.{Good, Grow, grow_refl, grow_trans}
-use Rattle.theory.specs.SweepReferences.{store_grow, reference_went, slot, reference_good, reference_grow}
+use Rattle.theory.proofs.Good.{Good, Grow, grow_refl, grow_trans}
+use Rattle.theory.proofs.SweepReferences.{store_grow, reference_went, slot, reference_good, reference_grow}
 use Rattle.theory.specs.NoneKept.{references_kept}
-use Rattle.theory.specs.Alike.{Alike, refs_same, Turned, InStep, partner_stays, how_step}
+use Rattle.theory.proofs.Alike.{Alike, refs_same, Turned, InStep, partner_stays, how_step}
 
 -- from s and u, in step, to t and r, in step
 pub record Steps (W Z : World) (Pair : ℕ → ℕ → Type 0) (s u t r : State) : Type 0 where

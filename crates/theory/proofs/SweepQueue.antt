@@ -13,9 +13,9 @@ use Rattle.theory.specs.Queue.{queue_short}
 use Rattle.theory.specs.World.{Swept, becomes_map, page_of, refs_at, World, root, Reach, Kept}
 use Rattle.theory.specs.Places.{kept_label}
 use Rattle.theory.specs.Tile.{Begins}
-use Rattle.theory.specs.Good.{Good, Fresh, Grow, grow_refl, grow_trans, Went, forward_went}
+use Rattle.theory.proofs.Good.{Good, Fresh, Grow, grow_refl, grow_trans, Went, forward_went}
 use Rattle.theory.specs.Cursor.{Cursor, at_place}
-use Rattle.theory.specs.SweepPage.{PageDone, sweep_page_lem}
+use Rattle.theory.proofs.SweepPage.{PageDone, sweep_page_lem}
 
 -- ---- the queue
 

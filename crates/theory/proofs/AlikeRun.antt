@@ -9,12 +9,12 @@ use Rattle.rules.specs.Collection.{State, forward, forward_roots, sweep_page, sw
 use Rattle.rules.specs.Demands.{Becomes}
 use Rattle.theory.specs.World.{World}
 use Rattle.theory.specs.Cursor.{Cursor}
-use Rattle.theory.specs.Good.{Good, forward_went}
-use Rattle.theory.specs.SweepQueue.{Cells, rooted, page_start}
+use Rattle.theory.proofs.Good.{Good, forward_went}
+use Rattle.theory.proofs.SweepQueue.{Cells, rooted, page_start}
 use Rattle.theory.specs.NoneKept.{roots_kept, queue_kept}
-use Rattle.theory.specs.Alike.{Alike, InStep, how_step}
-use Rattle.theory.specs.AlikeReferences.{Steps, steps_none, steps_trans}
-use Rattle.theory.specs.AlikePage.{page_steps}
+use Rattle.theory.proofs.Alike.{Alike, InStep, how_step}
+use Rattle.theory.proofs.AlikeReferences.{Steps, steps_none, steps_trans}
+use Rattle.theory.proofs.AlikePage.{page_steps}
 
 module _ (W Z : World) (Pair : ℕ → ℕ → Type 0) (A : Alike W Z Pair) where
   -- ---- the queue

@@ -8,11 +8,11 @@ use Rattle.laws.specs.Pages.{split_page}
 use Rattle.theory.specs.World.{page_of, size_at, refs_at, World, Kept, kept_place}
 use Rattle.theory.specs.Places.{some_words, kept_obj, unkept_standing}
 use Rattle.theory.specs.Cursor.{Cursor, at_place, at_stop, behind_place}
-use Rattle.theory.specs.Good.{Good}
-use Rattle.theory.specs.SweepPage.{queued_label, object_fits, object_step}
+use Rattle.theory.proofs.Good.{Good}
+use Rattle.theory.proofs.SweepPage.{queued_label, object_fits, object_step}
 use Rattle.theory.specs.NoneKept.{page_kept}
-use Rattle.theory.specs.Alike.{Alike, size_same, refs_same, Partner, Turned, InStep, turned, step_turned}
-use Rattle.theory.specs.AlikeReferences.{Steps, steps_none, steps_trans, references_steps}
+use Rattle.theory.proofs.Alike.{Alike, size_same, refs_same, Partner, Turned, InStep, turned, step_turned}
+use Rattle.theory.proofs.AlikeReferences.{Steps, steps_none, steps_trans, references_steps}
 
 -- an object retained on the one is paired with one retained on the other, at the same place
 across : (W Z : World) (Pair : ℕ → ℕ → Type 0) → Alike W Z Pair → (s u : State) → Good W s → InStep W Z Pair s u

@@ -20,8 +20,8 @@ use Rattle.theory.specs.Put.{Ready, put_inv, top_page, mem_new, kept_split}
 use Rattle.theory.specs.Take.{Extends, ext_kept, take_back}
 use Rattle.theory.specs.Keep.{Comes, kept_split as keep-split, keep_inv, keep_ext}
 use Rattle.theory.specs.Forward.{Due, Avail, room_for, copied, keeping, How, idle, copies, keeps, Forwards, Opened, open_room, copy_ext, forward_forwards}
-use Rattle.theory.specs.Packs.{Packs, packs_within, packs_how}
-use Rattle.theory.specs.ForwardSafe.{forward_safe}
+use Rattle.theory.proofs.Packs.{Packs, packs_within, packs_how}
+use Rattle.theory.proofs.ForwardSafe.{forward_safe}
 use Rattle.theory.specs.Upward.{Upward, copy_upward, keep_upward}
 use Rattle.theory.specs.Stacked.{Stacked, stacked_same, copy_stacked}
 use Rattle.theory.specs.Causes.{Causes, causes_how}

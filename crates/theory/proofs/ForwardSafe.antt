@@ -15,7 +15,7 @@ use Rattle.theory.specs.Put.{Ready, top_page, to_fits, to_inside}
 use Rattle.theory.specs.Take.{page_inside}
 use Rattle.theory.specs.Keep.{page_inside as kept-inside}
 use Rattle.theory.specs.Forward.{Due, Avail, can_says, room_for, open_room}
-use Rattle.theory.specs.Packs.{Packs, packs_within, words_left}
+use Rattle.theory.proofs.Packs.{Packs, packs_within, words_left}
 
 module _ (W : World) (s : State) (I : Inv W s) (K : Packs W s) (Q : Queued W.plan.new s.pages.labels s.pages.queue) where
   module _ (x : ℕ) (D : Due W s x) (av : Avail W s (size_at W x)) where

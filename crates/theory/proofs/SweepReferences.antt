@@ -10,13 +10,13 @@ use Rattle.laws.specs.Safe.{SafeForward, SafeReferences}
 use Rattle.theory.specs.World.{Swept, refs_at, World, ref, Retained, Reach, Kept, stayed, went, Inv}
 use Rattle.theory.specs.Places.{kept_obj, kept_label}
 use Rattle.theory.specs.Forward.{idle, forward_self}
-use Rattle.theory.specs.Packs.{Packs}
+use Rattle.theory.proofs.Packs.{Packs}
 use Rattle.theory.specs.Stacked.{stacked_same}
 use Rattle.theory.specs.Causes.{StaysBy, by_up, Cause, Causes}
-use Rattle.theory.specs.ForwardSafe.{forward_safe}
+use Rattle.theory.proofs.ForwardSafe.{forward_safe}
 use Rattle.theory.specs.Store.{stored, Slot, stays_up, kept_up, kept_back, slot_swept, swept_up, store_inv}
 use Rattle.theory.specs.Tile.{store_tiled, store_lined}
-use Rattle.theory.specs.Good.{Good, Grow, grow_refl, grow_trans, kept_reach, Went, forward_went}
+use Rattle.theory.proofs.Good.{Good, Grow, grow_refl, grow_trans, kept_reach, Went, forward_went}
 
 -- ---- a reference stored
 

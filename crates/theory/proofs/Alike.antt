@@ -10,7 +10,7 @@ use Rattle.rules.specs.Collection.{Pages, State, take_page, with_room, top, put,
 use Rattle.rules.specs.Demands.{Becomes}
 use Rattle.theory.specs.World.{page_of, size_at, refs_at, World, Kept, Inv}
 use Rattle.theory.specs.Forward.{Due, due_not_kept, Avail, room_for, copied, keeping, How, idle, copies, keeps}
-use Rattle.theory.specs.Good.{Good, Grow, copy_last, copy_kept, copy_split, how_grow}
+use Rattle.theory.proofs.Good.{Good, Grow, copy_last, copy_kept, copy_split, how_grow}
 
 -- `Pair x y` says that x of the one world is y of the other
 pub record Alike (W Z : World) (Pair : ℕ → ℕ → Type 0) : Type 0 where

@@ -22,15 +22,15 @@ use Rattle.theory.specs.World.{becomes_map, World, Kept, stayed, went}
 use Rattle.theory.specs.Places.{kept_obj, hinted_label, old_new_kept}
 use Rattle.theory.specs.Hints.{queues_same}
 use Rattle.theory.specs.SoundHeap.{in_use}
-use Rattle.theory.specs.FirstState.{U, H, named as named_of, p as pages_of, s as first_of, world, first_good, hinted_new, new_hinted, used_kind}
-use Rattle.theory.specs.Run.{W as worldOf, r as rooted_of, t as sweptOf, cells, roots_done, all_done}
-use Rattle.theory.specs.After.{m' as lent_of, inv, kept_object, kept_header, kept_reference, new_in_use, in_use_new}
-use Rattle.theory.specs.Pairing.{told, outcome, Pairs, hinted_stays, faithful, after_ready}
-use Rattle.theory.specs.Taken.{taken, taken_length, new_taken}
+use Rattle.theory.proofs.FirstState.{U, H, named as named_of, p as pages_of, s as first_of, world, first_good, hinted_new, new_hinted, used_kind}
+use Rattle.theory.proofs.Run.{W as worldOf, r as rooted_of, t as sweptOf, cells, roots_done, all_done}
+use Rattle.theory.proofs.After.{m' as lent_of, inv, kept_object, kept_header, kept_reference, new_in_use, in_use_new}
+use Rattle.theory.proofs.Pairing.{told, outcome, Pairs, hinted_stays, faithful, after_ready}
+use Rattle.theory.proofs.Taken.{taken, taken_length, new_taken}
 use Rattle.theory.specs.NoneKept.{queue_kept}
-use Rattle.theory.specs.Alike.{Alike, Twin, Partner, Turned, InStep}
-use Rattle.theory.specs.AlikeReferences.{Steps}
-use Rattle.theory.specs.AlikeRun.{roots_steps, queue_steps}
+use Rattle.theory.proofs.Alike.{Alike, Twin, Partner, Turned, InStep}
+use Rattle.theory.proofs.AlikeReferences.{Steps}
+use Rattle.theory.proofs.AlikeRun.{roots_steps, queue_steps}
 
 module _ (m : Lent) (roots hints : List ℕ) (A : Ready m roots) where
   abbrev W : World

@@ -13,8 +13,8 @@ use Rattle.laws.specs.Safe.{SafeReferences, SafePage}
 use Rattle.theory.specs.World.{Swept, page_of, label_of, size_at, refs_at, World, Kept, Place, home, kept_place, Region, Inv}
 use Rattle.theory.specs.Places.{SameOrApart, some_words, Standing, there, left, place_obj, kept_obj, place_fits, kept_fits, place_end as place-ends, kept_apart, kept_region, kept_from, standing, left_word, left_size, left_step}
 use Rattle.theory.specs.Cursor.{Cursor, at_place, at_stop, behind_place}
-use Rattle.theory.specs.Good.{Good, Fresh, Grow, grow_refl, grow_trans}
-use Rattle.theory.specs.SweepReferences.{Refs, sweep_references_lem}
+use Rattle.theory.proofs.Good.{Good, Fresh, Grow, grow_refl, grow_trans}
+use Rattle.theory.proofs.SweepReferences.{Refs, sweep_references_lem}
 
 -- ---- a page
 

@@ -28,12 +28,12 @@ use Rattle.theory.specs.Sums.{gather_mem}
 use Rattle.theory.specs.Packing.{packed_none}
 use Rattle.theory.specs.KeptPages.{not_kept}
 use Rattle.theory.specs.World.{World, Kept, stayed, went, Place, home, away, Inv}
-use Rattle.theory.specs.Packs.{froms, Packs}
+use Rattle.theory.proofs.Packs.{froms, Packs}
 use Rattle.theory.specs.Upward.{none_upward}
 use Rattle.theory.specs.Stacked.{stacked_none}
 use Rattle.theory.specs.Causes.{causes_none}
 use Rattle.theory.specs.Tile.{Next, another, blank, Tiled}
-use Rattle.theory.specs.Good.{Good}
+use Rattle.theory.proofs.Good.{Good}
 use Rattle.theory.specs.Hints.{Unhinted, Hinting, begun_hinting, hint_pages_lem, pages_get, free_as_before, hints_safe}
 use Rattle.laws.specs.Collect.{Ready}
 use Rattle.theory.specs.SoundHeap.{layout, other≢0, other≢label, in_use, met_of, object_fits, object_nonzero, first_object, objects_unhinted, words_are, unhinted_is}

@@ -12,7 +12,8 @@ use Rattle.rules.specs.Collection.{Move, State, on_pages, put, take_page, with_r
 use Rattle.laws.specs.Walk.{size}
 use Rattle.laws.specs.FreePages.{Lowest, free_pages, lowest, free_less, free_same, free_relabelled}
 use Rattle.theory.specs.Sums.{sum_snoc, Distinct, distinct_snoc, sub_sum}
-use Rattle.theory.specs.Packing.{Packed, packed_same, packed_new, packed_enough}
+use Rattle.theory.specs.Packing.{Packed, packed_same, packed_new}
+use Rattle.theory.proofs.Packing.{packed_enough}
 use Rattle.theory.specs.World.{page_of, size_at, World, Inv}
 use Rattle.theory.specs.Places.{some_words, old_before}
 use Rattle.theory.specs.Put.{put_moves}

@@ -1,0 +1,10 @@
+pub mod Examples
+pub mod NumberExamples
+pub mod LentExamples
+pub mod WalkExamples
+pub mod SoundExamples
+pub mod CallExamples
+pub mod CollectionExamples
+pub mod CollectExamples
+pub mod InARowExamples
+pub mod Edges
