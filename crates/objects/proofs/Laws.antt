@@ -1,16 +1,11 @@
 -- Laws of the definitions as the code of this crate meets them: what is found. Assumes nothing.
 use mathlib.Core.Path.{◌≡◌, refl}
-use mathlib.Core.Logic.{inl, inr}
 use mathlib.Core.Bool.{true}
-use mathlib.Core.List.{[], ◌∷◌}
 use Prim.Native.Nat.{ℕ, ◌+◌, ◌≤◌}
 use native.Mathlib.Omega.{arith}
 use lib.ListN.{length}
-use types.Run.{OneOf}
-use denote.Enum.Declared.{tag_of}
 use Rattle.rules.specs.declared.Found.{Found}
 use Rattle.rules.specs.declared.Found.TheVariants.{Start, Inside, Nothing}
-use Rattle.rules.specs.contracts.Found.{the_type}
 use Rattle.rules.specs.Calls.{Outcome, told, on_start}
 use Rattle.rules.specs.Header.{size_of}
 use Rattle.rules.specs.Lent.{Lent, is_valid}
@@ -18,10 +13,9 @@ use Rattle.rules.specs.Walk.{found}
 use Rattle.laws.specs.Valid.{valid_laid}
 use Rattle.laws.specs.LookUp.{placed, found_object}
 
--- where no object start is found, look-up's answer is passed on; a `match` knows what was found by its tag
-pub not_start : (f : Found) → OneOf (1 ∷ (2 ∷ [])) (tag_of the_type f) → (a : ℕ) (m : Lent) (go : ℕ → Outcome) → on_start f a m go ≡ told f a m
-not_start (Start w) (inl e) a m go = absurd (omega arith)
-not_start (Start w) (inr e) a m go = absurd (omega arith)
+-- where no object start is found, look-up's answer is passed on
+pub not_start : (f : Found) → ((w : ℕ) → f ≡ Start w → ⊥) → (a : ℕ) (m : Lent) (go : ℕ → Outcome) → on_start f a m go ≡ told f a m
+not_start (Start w) k a m go = absurd (k w refl)
 not_start (Inside s) k a m go = refl
 not_start Nothing k a m go = refl
 
