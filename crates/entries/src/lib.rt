@@ -148,6 +148,7 @@ pub fn decode(e: Entry) -> Step
 }
 
 // A start was accepted, and slots x and y are below 16. A step that uses fewer than two passes 0.
+#[tactic(auto, unfolding(rules::specs::Ranges::each))]
 fn may_use(begun: bool, x: u32, y: u32) -> bool
     ensures { result ≡ may_use begun (x ∷ y ∷ []) }
 {

@@ -1,12 +1,11 @@
 // A reader: the lent bytes and a place in them, in one value. Its functions are thin: each takes it apart, and leaves the rest
-// to the cursor. Their proofs walk the code by hand, since Rattle proves nothing by itself of a struct that holds a reference.
-// `read` asks for bytes and a number alone, so that those who call it need no such proof.
+// to the cursor. `read` asks for bytes and a number alone.
 ghost use Rattle.std.specs.Prelude.{◌≡◌, ◌+◌, ◌≤◌};
 ghost use Rattle.entries.specs.Entries.{next_at};
 
 use crate::{Cursor, Next};
 
-#[derive(Drop)]
+#[derive(Clone, Copy)]
 pub struct Reader<'a> {
     pub bytes: &'a [u8],
     pub at: usize,

@@ -1,6 +1,5 @@
-// The running tally, by value and lent. `note` and `tallied` are thin, since their proofs walk the code by hand: Rattle proves
-// nothing by itself of a struct behind a `&mut`. `tallied` takes and gives the tally by value, so that those who call it need
-// no such proof.
+// The running tally, by value and lent. `tallied` takes and gives the tally by value, so that those who call it need lend
+// nothing.
 ghost use Rattle.std.specs.Prelude.{◌≡◌};
 ghost use Rattle.lines.specs.Lines.{none, noted};
 ghost use Rattle.lines.specs.Put.{Adds};
