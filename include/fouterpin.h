@@ -1,7 +1,7 @@
 /* fouterpin.h: the calls of Fouterpin, a mostly-copying collected heap (Bartlett 1988), for C.
 
-   The functions are those of the crate `solver`; each is proved equal to document 01's rules, with Q-1 to Q-6, for every input.
-   `rt staticlib solver` writes the archive target/staticlib/libsolver.a, for x86-64 Linux. Of C's library it wants memset, memcpy and memmove
+   The functions are those of the crate `solver_c`; each is proved equal to document 01's rules, with Q-1 to Q-6, for every input.
+   `tools/archive` writes the archive target/staticlib/libsolver.a, for x86-64 Linux. Of C's library it wants memset, memcpy and memmove
    at most, and no other; it allocates nothing, keeps no state between calls and never ends the program. Each takes a few hundred bytes of
    stack. A C program links it as it is:
 
