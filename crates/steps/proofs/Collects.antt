@@ -8,7 +8,7 @@ use Rattle.promises.specs.Completes.{completes}
 use Rattle.entries.specs.declared.Step.{Step}
 use Rattle.entries.specs.declared.Step.TheVariants.{Collect}
 use Rattle.steps.specs.Session.{Session, before, refused, passed, perform, step}
-use Rattle.steps.specs.Ready.{IsReady, played, session_ready}
+use Rattle.steps.proofs.Ready.{IsReady, played, session_ready}
 
 pub perform_collects : (s : Session) → IsReady s → s.begun ≡ true → (perform s Collect).refusal ≡ 0
 unfolding perform passed

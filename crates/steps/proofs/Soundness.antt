@@ -16,8 +16,8 @@ use Rattle.entries.specs.declared.Step.{Step}
 use Rattle.entries.specs.declared.Step.TheVariants.{Start, Allocate, Store, Load, Hint, Clear, Collect, LookUp, Bad}
 use Rattle.entries.specs.Entries.{is_allowed}
 use Rattle.steps.specs.Session.{Session, Stepped, before, refused, accepted, passed, blank, begin, operand_of, root_plus, perform, step}
-use Rattle.steps.specs.Ready.{IsReady, played, session_ready}
-use Rattle.steps.specs.Collects.{perform_collects}
+use Rattle.steps.proofs.Ready.{IsReady, played, session_ready}
+use Rattle.steps.proofs.Collects.{perform_collects}
 
 pub session_sound : (ts : List Step) → (played before ts).begun ≡ true → Sound (played before ts).lent
 session_sound ts b = (session_ready ts b).sound
