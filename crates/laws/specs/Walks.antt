@@ -51,8 +51,8 @@ steps_page m g {z} {l} st =
 pub page_kept : (m : Lent) (h' : List ℕ) (g : ℕ) → ((b : ℕ) → Memᴰ b (starts m g) → at h' b ≡ at m.heap b)
     → (stop m g < g * m.rec.page + m.rec.page → at h' (stop m g) ≡ at m.heap (stop m g))
     → Steps h' (g * m.rec.page) m.rec.page (starts m g) (stop m g)
-page_kept m h' g same atStop = steps_cong h' (page_steps m g) same (go (dec_lt (stop m g) (g * m.rec.page + m.rec.page)))
+page_kept m h' g same at_stop = steps_cong h' (page_steps m g) same (go (dec_lt (stop m g) (g * m.rec.page + m.rec.page)))
   where
     go : Dec (stop m g < g * m.rec.page + m.rec.page) → is_header (at h' (stop m g)) (g * m.rec.page + m.rec.page - stop m g) ≡ false
     go (no n) = let e : g * m.rec.page + m.rec.page - stop m g ≡ 0 = omega arith in rw e (header_full _)
-    go (yes l) = rw (atStop l) (steps_stop (page_steps m g))
+    go (yes l) = rw (at_stop l) (steps_stop (page_steps m g))

@@ -36,22 +36,22 @@ module _ (a n : ℕ) where
 
 -- ---- the pages: those below g are done
 
-pub record Freeing (P old : ℕ) (goalH goalL h l : List ℕ) (g : ℕ) : Type 0 where
-  pub heap : take (g * P) h ++ freed_heap P old (drop g l) (drop (g * P) h) ≡ goalH
-  pub labels : take g l ++ freed_labels old (drop g l) ≡ goalL
+pub record Freeing (P old : ℕ) (goal_h goal_l h l : List ℕ) (g : ℕ) : Type 0 where
+  pub heap : take (g * P) h ++ freed_heap P old (drop g l) (drop (g * P) h) ≡ goal_h
+  pub labels : take g l ++ freed_labels old (drop g l) ≡ goal_l
 
 pub freeing_begin : (P old : ℕ) (h l : List ℕ) → Freeing P old (freed_heap P old l h) (freed_labels old l) h l 0
 freeing_begin P old h l = let e : 0 * P ≡ 0 = omega arith in record { heap = rw e; labels = refl }
 
-module _ (P old T : ℕ) (goalH goalL h l : List ℕ) (g : ℕ) (F : Freeing P old goalH goalL h l g) (hl : length h ≡ T * P) (ll : length l ≡ T) where
-  pub freeing_end : T ≤ g → (h ≡ goalH) × (l ≡ goalL)
+module _ (P old T : ℕ) (goal_h goal_l h l : List ℕ) (g : ℕ) (F : Freeing P old goal_h goal_l h l g) (hl : length h ≡ T * P) (ll : length l ≡ T) where
+  pub freeing_end : T ≤ g → (h ≡ goal_h) × (l ≡ goal_l)
   unfolding freed_heap freed_labels
   freeing_end p =
       let le : length h ≤ g * P = omega (arith, mul-le-mul_right P p) in
       let lq : length l ≤ g = omega arith in
       let d : drop g l ≡ [] = drop_of_length-le l lq in
-      let a : take (g * P) h ++ [] ≡ goalH = rw d at F.heap in
-      let b : take g l ++ [] ≡ goalL = rw d at F.labels in
+      let a : take (g * P) h ++ [] ≡ goal_h = rw d at F.heap in
+      let b : take g l ++ [] ≡ goal_l = rw d at F.labels in
       (sym (take_all (g * P) h le) ∙ sym (append-nil (take (g * P) h)) ∙ a, sym (take_all g l lq) ∙ sym (append-nil (take g l)) ∙ b)
 
   module _ (p : g < T) where
@@ -68,21 +68,21 @@ module _ (P old T : ℕ) (goalH goalL h l : List ℕ) (g : ℕ) (F : Freeing P o
     abbrev rest : List ℕ
     rest = freed_heap P old (drop (suc g) l) (drop P (drop (g * P) h))
 
-    kept : (at l g ≡ old → ⊥) → Freeing P old goalH goalL h l (g + 1)
+    kept : (at l g ≡ old → ⊥) → Freeing P old goal_h goal_l h l (g + 1)
     unfolding freed_heap freed_labels
     kept n =
-        let a : take (g * P) h ++ (take P (drop (g * P) h) ++ rest) ≡ goalH = rw (drop-cons l g 0 here, ne_eqb (at l g) old n) at F.heap in
-        let b : take g l ++ (at l g ∷ freed_labels old (drop (suc g) l)) ≡ goalL = rw (drop-cons l g 0 here, ne_eqb (at l g) old n) at F.labels in
+        let a : take (g * P) h ++ (take P (drop (g * P) h) ++ rest) ≡ goal_h = rw (drop-cons l g 0 here, ne_eqb (at l g) old n) at F.heap in
+        let b : take g l ++ (at l g ∷ freed_labels old (drop (suc g) l)) ≡ goal_l = rw (drop-cons l g 0 here, ne_eqb (at l g) old n) at F.labels in
         record {
           heap = rw (more, add-one g, take-add (g * P) P h, ← (drop-drop P (g * P) h), append_assoc (take (g * P) h) (take P (drop (g * P) h)) rest) a;
           labels = rw (add-one g, take-suc l g 0 here, append_assoc (take g l) (at l g ∷ []) (freed_labels old (drop (suc g) l))) b;
         }
 
-    freed : at l g ≡ old → Freeing P old goalH goalL (sets h (g * P) (replicate P 0)) (set l g 0) (g + 1)
+    freed : at l g ≡ old → Freeing P old goal_h goal_l (sets h (g * P) (replicate P 0)) (set l g 0) (g + 1)
     unfolding freed_heap freed_labels
     freed y =
-        let a : take (g * P) h ++ (replicate P 0 ++ rest) ≡ goalH = rw (drop-cons l g 0 here, eq-eqb (at l g) old y) at F.heap in
-        let b : take g l ++ (0 ∷ freed_labels old (drop (suc g) l)) ≡ goalL = rw (drop-cons l g 0 here, eq-eqb (at l g) old y) at F.labels in
+        let a : take (g * P) h ++ (replicate P 0 ++ rest) ≡ goal_h = rw (drop-cons l g 0 here, eq-eqb (at l g) old y) at F.heap in
+        let b : take g l ++ (0 ∷ freed_labels old (drop (suc g) l)) ≡ goal_l = rw (drop-cons l g 0 here, eq-eqb (at l g) old y) at F.labels in
         let z : length {A = ℕ} (replicate P 0) ≡ P = length-replicate P 0 in
         let s : sets h (g * P) (replicate P 0) ≡ (take (g * P) h ++ replicate P 0) ++ drop (g * P + P) h
         = rw z at (sets-eq (replicate P 0) h (g * P) (omega (arith, fits, z))) in
@@ -97,9 +97,9 @@ module _ (P old T : ℕ) (goalH goalL h l : List ℕ) (g : ℕ) (F : Freeing P o
         }
 
     -- as the code leaves page g
-    pub freeing_turn : (h' l' : List ℕ) → h' ≡ cond (eqb (at l g) old) (sets h (g * P) (replicate P 0)) h → l' ≡ cond (eqb (at l g) old) (set l g 0) l → Freeing P old goalH goalL h' l' (g + 1)
+    pub freeing_turn : (h' l' : List ℕ) → h' ≡ cond (eqb (at l g) old) (sets h (g * P) (replicate P 0)) h → l' ≡ cond (eqb (at l g) old) (set l g 0) l → Freeing P old goal_h goal_l h' l' (g + 1)
     freeing_turn h' l' a b = rw (a, b) (go (eqb (at l g) old) refl)
       where
-        go : (t : Bool) → eqb (at l g) old ≡ t → Freeing P old goalH goalL (cond t (sets h (g * P) (replicate P 0)) h) (cond t (set l g 0) l) (g + 1)
+        go : (t : Bool) → eqb (at l g) old ≡ t → Freeing P old goal_h goal_l (cond t (sets h (g * P) (replicate P 0)) h) (cond t (set l g 0) l) (g + 1)
         go true e = freed (eqb-true (at l g) old e)
         go false e = kept (eqb-false (at l g) old e)

@@ -31,11 +31,11 @@ module _ (m : Lent) (roots hints : List ℕ) where
   never_more = needed_never_more m hints
 
   -- N - k
-  abbrev pagesFree : ℕ
-  pagesFree = m.rec.pages - 1 - pages_used m.labels 1 m.rec.pages
+  abbrev pages_free : ℕ
+  pages_free = m.rec.pages - 1 - pages_used m.labels 1 m.rec.pages
 
   -- 8 was "given exactly when the new figure exceeds N - k"; where it was not, no page is kept
-  pub none_kept : (collect m roots hints).refusal ≡ 0 → needed_for m hints ≤ pagesFree → (collect m roots hints).kept ≡ 0
+  pub none_kept : (collect m roots hints).refusal ≡ 0 → needed_for m hints ≤ pages_free → (collect m roots hints).kept ≡ 0
   unfolding accepted_collect
   none_kept z h =
       let e : refusal_of_collect m roots ≡ 0 = sym (collect_refusal m roots hints) ∙ z in

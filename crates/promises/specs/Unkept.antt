@@ -74,7 +74,7 @@ module _ (m : Lent) (roots hints : List ℕ) (o : CollectOutcome) (c : Collectio
       empty (y ∷ l) f = absurd (f y (Memᴰ.head refl))
 
   pub and_back : (c.kept ≡ []) × (o.kept ≡ 0) → (c.fillers ≡ []) × (o.fillers ≡ 0) → FaithfulUnkept m roots hints o Pairs → Faithful m roots hints o c Pairs
-  and_back (noKept, kept0) (noFillers, fillers0) F = record {
+  and_back (no_kept, kept0) (no_fillers, fillers0) F = record {
     paired = paired_map (λ x h. inl h) (hinted_alone empty) F.paired;
     nothing = λ y ob. inl (F.nothing y ob);
     stays = F.stays;
@@ -103,10 +103,10 @@ module _ (m : Lent) (roots hints : List ℕ) (o : CollectOutcome) (c : Collectio
   }
     where
       kept_length : length c.kept ≡ 0
-      kept_length = ap (λ (l : List ℕ). length l) noKept
+      kept_length = ap (λ (l : List ℕ). length l) no_kept
 
       fillers_length : length c.fillers ≡ 0
-      fillers_length = ap (λ (l : List ℕ). length l) noFillers
+      fillers_length = ap (λ (l : List ℕ). length l) no_fillers
 
       empty : (g : ℕ) → Memᴰ g c.kept → ⊥
       empty = none c.kept kept_length

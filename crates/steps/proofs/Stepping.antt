@@ -197,9 +197,9 @@ module _ {heap labels links roots hints : List ℕ} (b : Buffers heap labels lin
   start_on_part P T size z good fits a h l k r w left er ew e =
       let few : T ≤ 1024 = few_pages size T good fits in
       let in_heap : T * size ≤ length heap = omega (arith, b.heap) in
-      let inLabels : T ≤ length labels = omega (arith, b.labels) in
-      let inLinks : T ≤ length links = omega (arith, b.links) in
+      let in_labels : T ≤ length labels = omega (arith, b.labels) in
+      let in_links : T ≤ length links = omega (arith, b.links) in
       let words : T * size ≡ T * page_at_start P = ap (λ (q : ℕ). T * q) z in
-      rw (back (T * size) heap h left.heap in_heap, back T labels l left.labels inLabels, back T links k left.links inLinks, er, ew)
+      rw (back (T * size) heap h left.heap in_heap, back T labels l left.labels in_labels, back T links k left.links in_links, er, ew)
       (start_accepted (session heap labels links roots hints s) P T (lent (take (T * size) heap) (take T labels) (take T links) s.rec) (outcome a h l k) e
-      (rw z at good) (omega arith) (length-take-le (T * size) heap in_heap ∙ words) (length-take-le T labels inLabels) (length-take-le T links inLinks))
+      (rw z at good) (omega arith) (length-take-le (T * size) heap in_heap ∙ words) (length-take-le T labels in_labels) (length-take-le T links in_links))

@@ -32,24 +32,24 @@ use Rattle.theory.specs.SoundHeap.{layout, other_label_lem, other≢0, other≢l
 use Rattle.laws.specs.Objects.{page_pos}
 use Rattle.laws.specs.Valid.{label_pos}
 use Rattle.theory.proofs.FirstState.{world, labels_length, used_kind, free_stays}
-use Rattle.theory.proofs.Run.{W as worldOf, t as sweptOf, all_done, filled}
+use Rattle.theory.proofs.Run.{W as world_of, t as swept_of, all_done, filled}
 
 module _ (m : Lent) (roots hints : List ℕ) (A : Ready m roots) where
   -- the labels, the heap and all that is lent after
   abbrev l' : List ℕ
-  l' = freed_labels m.rec.label (sweptOf m roots hints A).pages.labels
+  l' = freed_labels m.rec.label (swept_of m roots hints A).pages.labels
 
   abbrev h' : List ℕ
-  h' = freed_heap m.rec.page m.rec.label (sweptOf m roots hints A).pages.labels (fillers (plan_of m logged) (sweptOf m roots hints A)).heap
+  h' = freed_heap m.rec.page m.rec.label (swept_of m roots hints A).pages.labels (fillers (plan_of m logged) (swept_of m roots hints A)).heap
 
   abbrev pub m' : Lent
   m' = (collection logged m roots hints).lent
 
   abbrev s : State
-  s = sweptOf m roots hints A
+  s = swept_of m roots hints A
 
   abbrev W : World
-  W = worldOf m roots hints A
+  W = world_of m roots hints A
 
   abbrev S : Sound m
   S = A.sound
@@ -68,7 +68,7 @@ module _ (m : Lent) (roots hints : List ℕ) (A : Ready m roots) where
 
   -- the heap with its fillers, before pages are freed
   abbrev f : Filled
-  f = fillers (plan_of m logged) (sweptOf m roots hints A)
+  f = fillers (plan_of m logged) (swept_of m roots hints A)
 
   pub F : FilledAll W s f
   F = filled m roots hints A

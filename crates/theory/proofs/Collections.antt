@@ -17,7 +17,7 @@ use Rattle.theory.specs.Collections.{Again, Repeated}
 use Rattle.theory.specs.KeptPages.{kept_length}
 use Rattle.theory.proofs.Packs.{packs_within}
 use Rattle.theory.specs.Plainly.{collection_plainly, run_plainly}
-use Rattle.theory.proofs.Run.{r as rooted_of, t as sweptOf, all_done, run_safe}
+use Rattle.theory.proofs.Run.{r as rooted_of, t as swept_of, all_done, run_safe}
 use Rattle.theory.proofs.After.{m' as lent_of, after_sound}
 use Rattle.theory.proofs.Pairing.{told, outcome, Pairs, faithful, after_ready}
 use Rattle.theory.proofs.Taken.{finds, none_kept}
@@ -33,9 +33,9 @@ module _ (m : Lent) (roots hints : List ℕ) (A : Ready m roots) where
       (subst (λ (c : Collection). Faithful m roots hints (outcome m roots hints A) c (Pairs m roots hints A)) (sym (collection_plainly m roots hints)) (faithful m roots hints A))
 
   -- how many pages it kept
-  kept_count : length (told m roots hints A).kept ≡ (sweptOf m roots hints A).pages.kept
+  kept_count : length (told m roots hints A).kept ≡ (swept_of m roots hints A).pages.kept
   unfolding collection
-  kept_count = kept_length (sweptOf m roots hints A).pages (packs_within _ _ (all_done m roots hints A).good.packs)
+  kept_count = kept_length (swept_of m roots hints A).pages (packs_within _ _ (all_done m roots hints A).good.packs)
 
 module _ (m : Lent) (roots hints : List ℕ) (e : refusal_of_collect m roots ≡ 0) where
   A : Ready m roots
@@ -104,10 +104,10 @@ module _ (m : Lent) (roots hints : List ℕ) (A : Ready m roots) where
       is : collection plainly m' roots' hints ≡ told m' roots' hints (again m roots hints A)
       is = collection_plainly m' roots' hints
 
-      n : (sweptOf m roots hints A).pages.kept ≡ 0
+      n : (swept_of m roots hints A).pages.kept ≡ 0
       n = sym (kept_count m roots hints A) ∙ none
 
-      n' : (sweptOf m' roots' hints (again m roots hints A)).pages.kept ≡ 0
+      n' : (swept_of m' roots' hints (again m roots hints A)).pages.kept ≡ 0
       n' = sym (kept_count m' roots' hints (again m roots hints A)) ∙ ap (λ (c : Collection). length c.kept) (sym is) ∙ none'
 
   pub collection_again : Repeated m roots hints A (collection plainly m roots hints)

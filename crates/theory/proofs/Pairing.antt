@@ -31,7 +31,7 @@ use Rattle.theory.specs.SoundHeap.{other≢label, in_use, object_nonzero}
 use Rattle.laws.specs.Objects.{page_pos}
 use Rattle.laws.specs.Valid.{label_pos}
 use Rattle.theory.proofs.FirstState.{world, hinted_new, new_hinted, used_kind, free_stays}
-use Rattle.theory.proofs.Run.{W as worldOf, r as rooted_of, t as sweptOf, roots_done, all_done}
+use Rattle.theory.proofs.Run.{W as world_of, r as rooted_of, t as swept_of, roots_done, all_done}
 use Rattle.theory.proofs.After.{m' as lent_of, inv, tiled, copy_stop, after_sound, F as filled_of, first_place, kept_object, object_standing, left_object, left_header, left_zeros, kept_word, kept_header, kept_reference, new_in_use, in_use_new}
 use Rattle.theory.specs.Plainly.{unlogged}
 use Rattle.theory.proofs.Taken.{free_taken, taken_in_use, last_copy}
@@ -41,10 +41,10 @@ module _ (m : Lent) (roots hints : List ℕ) (A : Ready m roots) where
   S = A.sound
 
   abbrev W : World
-  W = worldOf m roots hints A
+  W = world_of m roots hints A
 
   abbrev s : State
-  s = sweptOf m roots hints A
+  s = swept_of m roots hints A
 
   abbrev m' : Lent
   m' = lent_of m roots hints A
@@ -61,10 +61,10 @@ module _ (m : Lent) (roots hints : List ℕ) (A : Ready m roots) where
 
   -- the pages kept
   abbrev kept : List ℕ
-  kept = kept_pages (sweptOf m roots hints A).pages
+  kept = kept_pages (swept_of m roots hints A).pages
 
   abbrev pub Pairs : ℕ → ℕ → Type 0
-  Pairs = Kept (worldOf m roots hints A) (sweptOf m roots hints A)
+  Pairs = Kept (world_of m roots hints A) (swept_of m roots hints A)
 
   -- ---- what stays is what is on hinted pages, and what is uncopied on those kept
 

@@ -34,7 +34,7 @@ use Rattle.laws.specs.Collect.{Ready}
 use Rattle.theory.specs.SoundHeap.{other≢0, other≢label, words_are}
 use Rattle.laws.specs.Valid.{label_pos}
 use Rattle.theory.proofs.FirstState.{p as pages_of, s as first_of, H, world, labels_length, used_kind, free_stays, was_free as first_free, free_same_pages}
-use Rattle.theory.proofs.Run.{W as worldOf, r as rooted_of, t as sweptOf, roots_done, all_done}
+use Rattle.theory.proofs.Run.{W as world_of, r as rooted_of, t as swept_of, roots_done, all_done}
 use Rattle.theory.proofs.After.{m' as lent_of, inv, tiled, first_place, kept_object, kept_header, new_in_use, in_use_new}
 
 module _ (m : Lent) (roots hints : List ℕ) (A : Ready m roots) where
@@ -42,10 +42,10 @@ module _ (m : Lent) (roots hints : List ℕ) (A : Ready m roots) where
   S = A.sound
 
   abbrev W : World
-  W = worldOf m roots hints A
+  W = world_of m roots hints A
 
   abbrev s : State
-  s = sweptOf m roots hints A
+  s = swept_of m roots hints A
 
   abbrev new : ℕ
   new = other_label m.rec.label

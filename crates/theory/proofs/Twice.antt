@@ -23,7 +23,7 @@ use Rattle.theory.specs.Places.{kept_obj, hinted_label, old_new_kept}
 use Rattle.theory.specs.Hints.{queues_same}
 use Rattle.theory.specs.SoundHeap.{in_use}
 use Rattle.theory.proofs.FirstState.{U, H, named as named_of, p as pages_of, s as first_of, world, first_good, hinted_new, new_hinted, used_kind}
-use Rattle.theory.proofs.Run.{W as worldOf, r as rooted_of, t as sweptOf, cells, roots_done, all_done}
+use Rattle.theory.proofs.Run.{W as world_of, r as rooted_of, t as swept_of, cells, roots_done, all_done}
 use Rattle.theory.proofs.After.{m' as lent_of, inv, kept_object, kept_header, kept_reference, new_in_use, in_use_new}
 use Rattle.theory.proofs.Pairing.{told, outcome, Pairs, hinted_stays, faithful, after_ready}
 use Rattle.theory.proofs.Taken.{taken, taken_length, new_taken}
@@ -34,10 +34,10 @@ use Rattle.theory.proofs.AlikeRun.{roots_steps, queue_steps}
 
 module _ (m : Lent) (roots hints : List ℕ) (A : Ready m roots) where
   abbrev W : World
-  W = worldOf m roots hints A
+  W = world_of m roots hints A
 
   abbrev t : State
-  t = sweptOf m roots hints A
+  t = swept_of m roots hints A
 
   -- what it leaves
   abbrev m' : Lent
@@ -54,7 +54,7 @@ module _ (m : Lent) (roots hints : List ℕ) (A : Ready m roots) where
   again = after_ready m roots hints A
 
   abbrev Z : World
-  Z = worldOf m' roots' hints again
+  Z = world_of m' roots' hints again
 
   -- ---- the two worlds are alike
 
@@ -191,9 +191,9 @@ module _ (m : Lent) (roots hints : List ℕ) (A : Ready m roots) where
 
     -- ---- and so they stay, where the second keeps no page either
 
-    module _ (none' : (sweptOf m' roots' hints again).pages.kept ≡ 0) where
+    module _ (none' : (swept_of m' roots' hints again).pages.kept ≡ 0) where
       abbrev t' : State
-      t' = sweptOf m' roots' hints again
+      t' = swept_of m' roots' hints again
 
       on_roots : Steps W Z Pair s u (rooted_of m roots hints A).state (rooted_of m' roots' hints again).state
       unfolding world after_roots after_sweep

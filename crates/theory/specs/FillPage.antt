@@ -142,11 +142,11 @@ module _ (W : World) (t : State) (I : Inv W t) (T : Tiled W t) (g : ℕ) (K : Ke
     abbrev n : ℕ
     n = size_at W m.from
 
-    abbrev filledHeap : List ℕ
-    filledHeap = sets s.heap a (filler n)
+    abbrev filled_heap : List ℕ
+    filled_heap = sets s.heap a (filler n)
 
-    abbrev withFiller : Filled
-    withFiller = record { heap = filledHeap; places = s.places ++ (a ∷ []) }
+    abbrev with_filler : Filled
+    with_filler = record { heap = filled_heap; places = s.places ++ (a ∷ []) }
 
     room_left : size_at W m.from ≤ room
     room_left = omega (arith, place_end W t I g a a (from_place W t I m mem) pg)
@@ -170,16 +170,16 @@ module _ (W : World) (t : State) (I : Inv W t) (T : Tiled W t) (g : ℕ) (K : Ke
         record { inside = rw U.heap_length S.inside; some = rw size_left (from_some W t I m mem); fits = rw size_left room_left }
 
     -- the words of the filler, and all others
-    filler_in : (i : ℕ) → i < n → at filledHeap (a + i) ≡ at (filler n) i
+    filler_in : (i : ℕ) → i < n → at filled_heap (a + i) ≡ at (filler n) i
     filler_in i h =
         let q : a + size_at W m.from ≤ length t.heap = omega (arith, W.inside a (I.moved m mem).object, I.heap_length) in
         sets_in s.heap a (filler n) i (omega (arith, filler_length n (from_some W t I m mem))) (omega (arith, filler_length n (from_some W t I m mem), U.heap_length))
 
-    filler_out : (w : ℕ) → (w < a) ⊎ (a + n ≤ w) → at filledHeap w ≡ at s.heap w
+    filler_out : (w : ℕ) → (w < a) ⊎ (a + n ≤ w) → at filled_heap w ≡ at s.heap w
     filler_out w (inl l) = sets_other s.heap a (filler n) w (inl l)
     filler_out w (inr l) = sets_other s.heap a (filler n) w (inr (omega (arith, filler_length n (from_some W t I m mem))))
 
-    filler_else : (w : ℕ) → page_of W w ≢ g → at filledHeap w ≡ at s.heap w
+    filler_else : (w : ℕ) → page_of W w ≢ g → at filled_heap w ≡ at s.heap w
     filler_else w q = filler_out w (go (dec_lt w a) (dec_lt w (a + n)))
       where
         go : Dec (w < a) → Dec (w < a + n) → (w < a) ⊎ (a + n ≤ w)
@@ -187,7 +187,7 @@ module _ (W : World) (t : State) (I : Inv W t) (T : Tiled W t) (g : ℕ) (K : Ke
         go (no l) (no k) = inr (omega arith)
         go (no l) (yes k) = absurd (q (on_page W.pos w g (omega arith) (omega (arith, room_left))))
 
-    unfilled : Unfilled W t (OnFrom W g (a + n)) filledHeap
+    unfilled : Unfilled W t (OnFrom W g (a + n)) filled_heap
     unfilled = record {
       heap_length = length-sets s.heap a (filler n) ∙ U.heap_length;
       rest = λ w (q, l). filler_out w (inr l) ∙ U.rest w (q, omega arith);
@@ -203,7 +203,7 @@ module _ (W : World) (t : State) (I : Inv W t) (T : Tiled W t) (g : ℕ) (K : Ke
         go (inr (inl z)) = absurd (omega (arith, from_some W t I k mek))
         go (inr (inr z)) = inr z
 
-    over_left : (s' : Filled) (Safe Safe' : Type 0) → (Safe → Safe') → FilledFrom W t g (a + n) withFiller s' Safe → FilledFrom W t g a s s' Safe'
+    over_left : (s' : Filled) (Safe Safe' : Type 0) → (Safe → Safe') → FilledFrom W t g (a + n) with_filler s' Safe → FilledFrom W t g a s s' Safe'
     over_left s' Safe Safe' safe r = record {
       safe = safe r.safe;
       heap_length = r.heap_length ∙ length-sets s.heap a (filler n);
@@ -250,7 +250,7 @@ module _ (W : World) (t : State) (I : Inv W t) (T : Tiled W t) (g : ℕ) (K : Ke
     fill_left ih =
         rw (word, size_left, left_no_header (at t.heap a) room room is_left_lem, left_is (at t.heap a) room is_left_lem)
         (over_left _ _ _ (λ z. (λ q. absurd (true≢false (sym q)), λ q. (step_safe, z)))
-        (ih (a + n) (room - n) withFiller unfilled (omega arith) (omega (arith, room_left)) (omega (arith, from_some W t I m mem, room_left))
+        (ih (a + n) (room - n) with_filler unfilled (omega arith) (omega (arith, room_left)) (omega (arith, from_some W t I m mem, room_left))
         (behind_place W t I T g a a (room - n) (from_place W t I m mem) pg (omega (arith, room_left)))))
 
   fill_none : FillOk zero
