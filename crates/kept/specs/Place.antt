@@ -6,7 +6,7 @@ use Rattle.std.proofs.Common.{◌∙◌, le_refl}
 use Rattle.std.proofs.Math.Logic.{inl, inr}
 use mathlib.Core.List.Memᴰ
 use mathlib.Core.List.{List, [], ◌∷◌, ◌++◌, Memᴰ}
-use Prim.Native.Nat.{ℕ, zero, suc, ◌+◌, ◌*◌, ◌-◌, ◌/◌, ◌≤◌, ◌<◌}
+use Prim.Native.Nat.{ℕ, suc, ◌+◌, ◌*◌, ◌-◌, ◌/◌, ◌≤◌, ◌<◌}
 use Rattle.std.proofs.Math.Nat.{add-zero}
 use Rattle.std.proofs.Math.Decide.{ℕ_discrete, dec_lt}
 use native.Mathlib.Omega.{arith}

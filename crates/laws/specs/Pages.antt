@@ -11,7 +11,7 @@ use types.Run.{OneOf}
 use Rattle.std.proofs.Math.Dec.{ltb}
 use borrow.Author.Tests.{leb-true, eq-eqb, ne_eqb, le-leb, lt-leb, lt-ltb, le-ltb}
 use Rattle.rules.specs.Tests.{and_left, and_right}
-use Rattle.rules.specs.Ranges.{from, block, each, has, at}
+use Rattle.rules.specs.Ranges.{from, block, each, has}
 use Rattle.rules.specs.Pages.{page_sizes, is_page_size, is_shape, page_named, page_named_before}
 use Rattle.laws.specs.Lists.{has_mem, mem_has, each_true, block_mem, mem_block}
 use Rattle.std.proofs.Math.Decide.{dec_lt}

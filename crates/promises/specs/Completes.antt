@@ -2,10 +2,10 @@
 -- never stuck: whatever it holds, a collection with nothing in the root cells and no hints leaves every page free.
 use Rattle.std.proofs.Math.Path.{◌≡◌}
 use Rattle.std.proofs.Common.{sym, ◌∙◌, inl, inr}
-use Rattle.std.specs.Prelude.{◌≢◌, ◌⊎◌, Bool, cond, ℕ, ◌<◌, length}
+use Rattle.std.specs.Prelude.{◌≢◌, ◌⊎◌, Bool, cond, ℕ}
 use Rattle.std.proofs.Math.Bool.{true, false}
 use mathlib.Core.List.Memᴰ
-use mathlib.Core.List.{List, [], ◌∷◌, Memᴰ}
+use mathlib.Core.List.{List, [], Memᴰ}
 use native.Mathlib.Omega.{arith}
 use Rattle.rules.specs.Ranges.{each}
 use Rattle.rules.specs.Pages.{pages_named}

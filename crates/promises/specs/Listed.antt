@@ -1,13 +1,13 @@
 -- The objects of a small heap one by one: what holds of each that the walks of its pages in use meet, holds of every
 -- object.
 use Rattle.std.specs.Prelude.{◌≡◌, refl, ◌⊎◌, ℕ, ◌/◌}
-use Rattle.std.proofs.Common.{ap, subst, inl, inr, eq-eqb, le-leb, lt-ltb}
+use Rattle.std.proofs.Common.{inl, inr, eq-eqb, le-leb, lt-ltb}
 use mathlib.Core.List.Memᴰ
 use mathlib.Core.List.{List, [], ◌∷◌, Memᴰ}
 use Rattle.rules.specs.Ranges.{block}
 use Rattle.rules.specs.Lent.{Lent}
 use Rattle.rules.specs.Walk.{starts, is_in_use}
-use Rattle.rules.specs.Sound.{InUse, IsObject}
+use Rattle.rules.specs.Sound.{IsObject}
 use Rattle.laws.specs.Lists.{block_mem}
 use Rattle.theory.specs.Sums.{gather, gather_mem}
 

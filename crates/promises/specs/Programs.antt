@@ -1,6 +1,6 @@
 -- Demand 3 tied to the code: what a program holds that makes these calls, and no other writes to heap or tables, giving each
 -- call the record last returned. That each call did what its contract says is all that is used of the code.
-use Rattle.std.specs.Prelude.{◌≡◌, List, ℕ, length}
+use Rattle.std.specs.Prelude.{◌≡◌, List, ℕ}
 use Rattle.std.proofs.Common.{sym, ap, ◌∙◌, subst}
 use Rattle.rules.specs.Lent.{Lent}
 use Rattle.rules.specs.Sound.{Sound}
@@ -10,7 +10,7 @@ use Rattle.rules.specs.Collect.{CollectOutcome, accepted_collect}
 use Rattle.rules.specs.Demands.{to_start, to_allocate, to_look_up, to_load, to_store, to_collect, after, Faithful, FindsPages}
 use Rattle.rules.specs.InARow.{NamesNoneTaken, Repeats}
 use Rattle.kept.specs.Start.{start_sound}
-use Rattle.laws.specs.Collect.{collect_refusal, collect_accepts}
+use Rattle.laws.specs.Collect.{collect_refusal}
 use Rattle.theory.proofs.Collections.{collect_finds, collect_faithful}
 use Rattle.promises.specs.CallContracts.{Left, held, Starts, Allocates, LooksUp, Loads, Stores, LeftCollected, held_collected, outcome_left, Collects}
 use Rattle.promises.specs.Demand3.{call_sound}

@@ -3,7 +3,7 @@
 -- Then four on small heaps: what each leaves there is faithful by no pairing and by no lists of pages and fillers.
 use Rattle.std.specs.Prelude.{◌≡◌, ◌≢◌, ◌⊎◌, ℕ, ◌+◌, ◌*◌, ◌/◌, ◌≤◌, ◌<◌, length, take}
 use Rattle.std.proofs.Math.Path.{refl}
-use Rattle.std.proofs.Common.{sym, ap, ◌∙◌, subst, inl, inr, get_or-take, length-take-le}
+use Rattle.std.proofs.Common.{sym, ◌∙◌, inl, inr, get_or-take, length-take-le}
 use mathlib.Core.List.Memᴰ
 use mathlib.Core.List.{List, [], ◌∷◌, ◌++◌, Memᴰ}
 use native.Mathlib.Omega.{arith}

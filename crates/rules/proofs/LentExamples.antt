@@ -1,5 +1,5 @@
 -- Examples of Lent: the lengths, and the record field by field. Each line watches the clause that its comment names.
-use Rattle.std.specs.Prelude.{◌≡◌, refl, Bool, true, false, List, [], ◌∷◌, ◌++◌, map, ℕ, replicate}
+use Rattle.std.specs.Prelude.{◌≡◌, refl, Bool, true, false, [], ◌∷◌, ◌++◌, map, ℕ}
 use Rattle.rules.specs.Lent.{Lent, lent, opening, relabelled, is_laid_out, is_label, is_open, is_valid}
 use Rattle.rules.specs.Header.{header_of}
 use Rattle.rules.specs.Unfolded.{the_rules}

@@ -1,6 +1,6 @@
 -- Examples of Walk: what the walk meets, where it stops, and what is found at an address. Each line watches the clause that
 -- its comment names.
-use Rattle.std.specs.Prelude.{◌≡◌, refl, true, false, List, [], ◌∷◌, ◌++◌, map, ℕ, replicate}
+use Rattle.std.specs.Prelude.{◌≡◌, refl, true, false, [], ◌∷◌, ◌++◌, map, replicate}
 use Rattle.rules.specs.declared.Found.TheVariants.{Start, Inside, Nothing}
 use Rattle.rules.specs.Header.{header_of}
 use Rattle.rules.specs.Lent.{Lent}

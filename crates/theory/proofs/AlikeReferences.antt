@@ -5,7 +5,7 @@ use Prim.Native.Nat.{ℕ, zero, suc, ◌+◌, ◌≤◌, ◌<◌}
 use Rattle.rules.specs.Ranges.{at}
 use Rattle.rules.specs.Collection.{State, forward, sweep_reference, sweep_references}
 use Rattle.theory.specs.World.{refs_at, World, Kept}
-use Rattle.theory.specs.Store.{stored, kept_back}
+use Rattle.theory.specs.Store.{kept_back}
 use Rattle.theory.proofs.Good.{Good, Grow, grow_refl, grow_trans}
 use Rattle.theory.proofs.SweepReferences.{store_grow, reference_went, slot, reference_good, reference_grow}
 use Rattle.theory.specs.NoneKept.{references_kept}

@@ -6,7 +6,7 @@ use Rattle.std.proofs.Common.{sym, ap, ◌∙◌, subst, inl, inr, zero-add, ari
 use mathlib.Core.List.Memᴰ
 use mathlib.Core.List.{List, [], ◌∷◌, ◌++◌, Memᴰ}
 use Prim.Native.Nat.{ℕ, ◌+◌, ◌≤◌, ◌<◌}
-use Rattle.rules.specs.Ranges.{at, sum}
+use Rattle.rules.specs.Ranges.{sum}
 use Rattle.rules.specs.Pages.{is_free, pages_needed}
 use Rattle.rules.specs.Collection.{Move, State, on_pages, put, take_page, with_room, can_copy, keep_page}
 use Rattle.laws.specs.Walk.{size}

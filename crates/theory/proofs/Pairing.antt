@@ -15,7 +15,7 @@ use Rattle.rules.specs.Lent.{Lent}
 use Rattle.rules.specs.Sound.{InUse, IsObject, refs, payload, Sound}
 use Rattle.rules.specs.Collection.{logged, Move, State, Collection, plan_of, kept_pages, collection}
 use Rattle.rules.specs.Collect.{CollectOutcome, accepted_collect}
-use Rattle.rules.specs.Demands.{Hinted, OnHinted, ReachedBy, staying, by_root, by_reference, Reached, Becomes, Paired, HoldsCopy, OnHintedOrKept, Moved, ReachedKeeping, KeptFor, LastFree, Overfills, Keeps, Fills, Faithful}
+use Rattle.rules.specs.Demands.{Hinted, ReachedBy, staying, by_root, by_reference, Reached, Becomes, Paired, HoldsCopy, OnHintedOrKept, Moved, ReachedKeeping, KeptFor, LastFree, Overfills, Keeps, Fills, Faithful}
 use Rattle.laws.specs.Walk.{size}
 use Rattle.laws.specs.Pages.{first_on_page}
 use Rattle.theory.specs.Sums.{mem_at}

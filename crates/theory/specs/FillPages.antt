@@ -15,7 +15,7 @@ use Rattle.theory.specs.Sums.{Distinct, distinct_append, places_distinct, distin
 use Rattle.theory.specs.Queue.{Queued}
 use Rattle.theory.specs.KeptPages.{kept_once}
 use Rattle.theory.specs.World.{page_of, World, KeptPage, Inv}
-use Rattle.theory.specs.Places.{left, old_new_kept}
+use Rattle.theory.specs.Places.{old_new_kept}
 use Rattle.theory.specs.Tile.{Tiled}
 use Rattle.theory.specs.Fillers.{FilledPage, filled_agree}
 use Rattle.theory.specs.FillPage.{Unfilled, FilledWhole, fill_whole, page_inside}

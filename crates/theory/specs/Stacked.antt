@@ -10,10 +10,10 @@ use Rattle.std.proofs.Math.Nat.{mul-le-mul_right}
 use Rattle.std.proofs.Math.Decide.{dec_lt}
 use native.Mathlib.Omega.{arith}
 use Rattle.std.proofs.Math.Dec.{leb}
-use borrow.Author.Tests.{leb-true, leb-false}
+use borrow.Author.Tests.{leb-false}
 use Rattle.rules.specs.Ranges.{at}
 use Rattle.rules.specs.Pages.{lowest_free}
-use Rattle.rules.specs.Collection.{Move, Pages, State, on_pages, take_page, with_room, top, put}
+use Rattle.rules.specs.Collection.{Move, Pages, State, take_page, with_room, top, put}
 use Rattle.laws.specs.Pages.{first_on_page}
 use Rattle.laws.specs.FreePages.{Lowest, none_below}
 use Rattle.theory.specs.World.{page_of, size_at, World, Inv}

@@ -1,6 +1,6 @@
 -- Copies go to free pages from the lowest on: up to the copy page no page is free, and of those behind it none is
 -- taken. So the copy page is the last one taken, whatever its number in the queue.
-use Rattle.std.specs.Prelude.{◌≡◌, refl, ◌≢◌, Bool, true, false, cond, List, ℕ, ◌+◌, ◌≤◌, ◌<◌, leb, length}
+use Rattle.std.specs.Prelude.{◌≡◌, refl, ◌≢◌, Bool, true, false, cond, List, ℕ, ◌+◌, ◌≤◌, ◌<◌, leb}
 use Rattle.std.proofs.Common.{sym, ap, ◌∙◌, arith, get_or-set_same, leb-false}
 use Rattle.std.proofs.Math.Decide.{ℕ_discrete, dec_lt}
 use Rattle.std.proofs.Math.Seq.{get_or-set_other}
@@ -8,7 +8,7 @@ use Rattle.rules.specs.Ranges.{at}
 use Rattle.rules.specs.Pages.{lowest_free}
 use Rattle.rules.specs.Collection.{Pages, State, take_page, with_room, put, keep_page}
 use Rattle.laws.specs.FreePages.{Lowest, none_below}
-use Rattle.theory.specs.World.{page_of, size_at, World, Inv}
+use Rattle.theory.specs.World.{size_at, World, Inv}
 use Rattle.theory.specs.Take.{page_inside}
 use Rattle.theory.specs.Keep.{free_else, free_up}
 use Rattle.theory.specs.Forward.{Due, Within, Avail, copied, keeping}
