@@ -17,34 +17,30 @@ with_room-g-requires c = record {
 pub overflow_mul-top : goal.overflow_mul-top
 overflow_mul-top c =
     let room : Room c.args.k.page c.size_of-n.result c.args.address (length c.args.heap.now) c.with_room-g.result = copy_fits c.args.k c.args.address c.size_of-n.result c.args.heap.now c.args.labels.now c.args.links.now c.with_room-g.new.labels c.with_room-g.new.links c.args.start c.with_room-g.result c.size_of-n.ensures.0 c.with_room-g.ensures.result_after c.with_room-g.ensures.objects_value c.requires.safe_copy in
-    let the-room = room in
-    omega (arith, the-room.into, the-room.small)
+    omega (arith, room.into, room.small)
 
 pub overflow_add-top : goal.overflow_add-top
 overflow_add-top c =
     let room : Room c.args.k.page c.size_of-n.result c.args.address (length c.args.heap.now) c.with_room-g.result = copy_fits c.args.k c.args.address c.size_of-n.result c.args.heap.now c.args.labels.now c.args.links.now c.with_room-g.new.labels c.with_room-g.new.links c.args.start c.with_room-g.result c.size_of-n.ensures.0 c.with_room-g.ensures.result_after c.with_room-g.ensures.objects_value c.requires.safe_copy in
-    let the-room = room in
-    omega (arith, the-room.into, the-room.small)
+    omega (arith, room.into, room.small)
 
 pub overflow_cast-top : goal.overflow_cast-top
 overflow_cast-top c =
     let room : Room c.args.k.page c.size_of-n.result c.args.address (length c.args.heap.now) c.with_room-g.result = copy_fits c.args.k c.args.address c.size_of-n.result c.args.heap.now c.args.labels.now c.args.links.now c.with_room-g.new.labels c.with_room-g.new.links c.args.start c.with_room-g.result c.size_of-n.ensures.0 c.with_room-g.ensures.result_after c.with_room-g.ensures.objects_value c.requires.safe_copy in
-    let the-room = room in
-    omega (arith, the-room.into, the-room.small)
+    omega (arith, room.into, room.small)
 
 pub copy_words-requires : goal.copy_words-requires
 copy_words-requires c =
     let room : Room c.args.k.page c.size_of-n.result c.args.address (length c.args.heap.now) c.with_room-g.result = copy_fits c.args.k c.args.address c.size_of-n.result c.args.heap.now c.args.labels.now c.args.links.now c.with_room-g.new.labels c.with_room-g.new.links c.args.start c.with_room-g.result c.size_of-n.ensures.0 c.with_room-g.ensures.result_after c.with_room-g.ensures.objects_value c.requires.safe_copy in
-    let the-room = room in record {
-      n_in_bounds = (the-room.from, the-room.into);
-      fact = the-room.apart;
+    record {
+      n_in_bounds = (room.from, room.into);
+      fact = room.apart;
     }
 
 pub overflow_mul-heap : goal.overflow_mul-heap
 overflow_mul-heap c =
     let room : Room c.args.k.page c.size_of-n.result c.args.address (length c.args.heap.now) c.with_room-g.result = copy_fits c.args.k c.args.address c.size_of-n.result c.args.heap.now c.args.labels.now c.args.links.now c.with_room-g.new.labels c.with_room-g.new.links c.args.start c.with_room-g.result c.size_of-n.ensures.0 c.with_room-g.ensures.result_after c.with_room-g.ensures.objects_value c.requires.safe_copy in
-    let the-room = room in
-    omega (arith, the-room.from, the-room.into, the-room.small)
+    omega (arith, room.from, room.into, room.small)
 
 pub offset_bounds-heap-x-2 : goal.offset_bounds-heap-x-2
 offset_bounds-heap-x-2 c =
@@ -60,8 +56,7 @@ overflow_cast-n-2 c = omega (arith, c.size_of-n.ensures.1)
 pub copied-gather-requires : goal.copied-gather-requires
 copied-gather-requires c =
     let room : Room c.args.k.page c.size_of-n.result c.args.address (length c.args.heap.now) c.with_room-g.result = copy_fits c.args.k c.args.address c.size_of-n.result c.args.heap.now c.args.labels.now c.args.links.now c.with_room-g.new.labels c.with_room-g.new.links c.args.start c.with_room-g.result c.size_of-n.ensures.0 c.with_room-g.ensures.result_after c.with_room-g.ensures.objects_value c.requires.safe_copy in
-    let the-room = room in
-    (omega (arith, the-room.into, the-room.small), the-room.objects, the-room.words)
+    (omega (arith, room.into, room.small), room.objects, room.words)
 
 pub returns : goal.returns
 returns c = rw (c.copied-gather.ensures, c.copy_words.ensures) (record {

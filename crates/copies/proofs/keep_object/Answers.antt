@@ -8,16 +8,15 @@ use Rattle.copies.proofs.keep_object.Goals as goal
 pub join-requires : goal.join-requires
 join-requires c =
     let fits : (c.args.start.tail < length c.args.labels.now) × (length c.args.labels.now ≤ 4096) × (c.args.start.kept < 4096) = keep_fits c.args.k c.args.labels.now c.args.links.now c.args.start c.args.address c.requires.safe_keep c.requires.tied in
-    let the-fits = fits in record {
+    record {
       queued = c.requires.tied.queued;
-      queued_in_bounds = (the-fits.0, c.requires.page_nonzero.1, the-fits.1);
+      queued_in_bounds = (fits.0, c.requires.page_nonzero.1, fits.1);
     }
 
 pub keeping-gather-requires : goal.keeping-gather-requires
 keeping-gather-requires c =
     let fits : (c.args.start.tail < length c.args.labels.now) × (length c.args.labels.now ≤ 4096) × (c.args.start.kept < 4096) = keep_fits c.args.k c.args.labels.now c.args.links.now c.args.start c.args.address c.requires.safe_keep c.requires.tied in
-    let the-fits = fits in
-    (omega (arith, the-fits), the-fits.2)
+    (omega (arith, fits), fits.2)
 
 pub returns : goal.returns
 returns c = rw c.keeping-gather.ensures (record {

@@ -16,8 +16,7 @@ join-requires c =
 pub taken-requires : goal.taken-requires
 taken-requires c =
     let fits : (c.args.g.tail < length c.args.labels.now) × (c.lowest_free-page.result < length c.args.labels.now) × (length c.args.labels.now ≤ 4096) = take_fits c.args.k c.args.labels.now c.args.links.now c.args.g _ c.requires.safe_take c.requires.tied c.lowest_free-page.ensures in
-    let the-fits = fits in
-    (omega (arith, the-fits), omega (arith, the-fits))
+    (omega (arith, fits), omega (arith, fits))
 
 pub returns : goal.returns
 returns c =

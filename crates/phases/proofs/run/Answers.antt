@@ -43,10 +43,9 @@ fill_pages-filled-requires c =
 
 pub free_pages-requires : goal.free_pages-requires
 free_pages-requires c =
-    let begun : Before c.args.r c.args.heap.now c.args.labels.now c.args.links.now c.args.roots.now c.args.hints.now c.shape_of-k.result = record { layout = c.requires.layout; safe = c.requires.safe_run; shape = c.shape_of-k.ensures } in
-    let the-begun = begun in (
-      c.fill_pages-filled.auto.heap ∙ c.sweep_queue-swept.auto.heap ∙ c.forward_roots-rooted.auto.heap ∙ the-begun.layout.heap ∙ rw the-begun.shape,
-      c.sweep_queue-swept.auto.labels ∙ c.forward_roots-rooted.auto.labels ∙ c.hint_words-hinted.auto.labels ∙ the-begun.layout.labels ∙ rw the-begun.shape,
+    let begun : Before c.args.r c.args.heap.now c.args.labels.now c.args.links.now c.args.roots.now c.args.hints.now c.shape_of-k.result = record { layout = c.requires.layout; safe = c.requires.safe_run; shape = c.shape_of-k.ensures } in (
+      c.fill_pages-filled.auto.heap ∙ c.sweep_queue-swept.auto.heap ∙ c.forward_roots-rooted.auto.heap ∙ begun.layout.heap ∙ rw begun.shape,
+      c.sweep_queue-swept.auto.labels ∙ c.forward_roots-rooted.auto.labels ∙ c.hint_words-hinted.auto.labels ∙ begun.layout.labels ∙ rw begun.shape,
     )
 
 pub answer-requires : goal.answer-requires
