@@ -1,54 +1,169 @@
-// What a call answers: its refusal, its value, and the record as it leaves it. Every function here answers every input, and equals its
-// definition in `rules` there.
+// What a call answers: `Ok` with what it gives, or why it is refused; and either as it crosses to C. Every function here answers
+// every input.
 
 #![tactic(auto)]
 
 ghost use Rattle.std.specs.Prelude.{◌≡◌, List, ℕ};
 ghost use Rattle.rules.specs.Lent.{lent};
-ghost use Rattle.rules.specs.Calls.{outcome, refused, inside, accepted, told};
+ghost use Rattle.rules.specs.Calls.{outcome, told};
+ghost use Rattle.answers.specs.Answers.{number, value, answer, collected};
 
-use rules::{Answer, Found, Record};
+use rules::{Answer, Collected, Found, Record};
+use std::error::Error;
+use std::fmt;
 
-// A refused call's answer: its number, value 0, and the record it was given.
-pub fn refused(refusal: u32, r: Record) -> Answer
-    ensures { (heap labels links : List ℕ) → outcome result heap labels links ≡ refused refusal (lent heap labels links r) }
-{
-    Answer {
-        refusal,
-        value: 0,
-        rec: r,
+// Why a call is refused.
+#[derive(Clone, Copy, Debug, PartialEq, Eq)]
+pub enum Refusal {
+    // A wrong length, P, T or record.
+    Layout,
+    // More references than payload words, or more of these than a page takes.
+    Shape,
+    // No room on the open page, and too few pages are free to take one.
+    CollectFirst,
+    // The address is no object start, nor inside an object.
+    NothingThere,
+    // The object has no payload word with this index.
+    Index,
+    // A value for a reference that is neither 0 nor an object start.
+    BadReference,
+    // The heap is not sound.
+    Unsound,
+    // A session's record that asks for nothing, or for what is not there.
+    BadEntry,
+    // The address is inside the object that starts there.
+    Inside(u32),
+}
+
+impl Refusal {
+    // Its number in the table of refusals.
+    #[inline]
+    pub fn number(self) -> u32
+        ensures { result ≡ number self }
+    {
+        match self {
+            Refusal::Layout => 1,
+            Refusal::Shape => 2,
+            Refusal::CollectFirst => 3,
+            Refusal::NothingThere => 4,
+            Refusal::Index => 5,
+            Refusal::BadReference => 6,
+            Refusal::Unsound => 7,
+            Refusal::BadEntry => 9,
+            Refusal::Inside(_) => 10,
+        }
+    }
+
+    // The value that goes with it: 0 but for the object that the address is inside.
+    #[inline]
+    pub fn value(self) -> u32
+        ensures { result ≡ value self }
+    {
+        match self {
+            Refusal::Inside(start) => start,
+            _ => 0,
+        }
     }
 }
 
-// Q-2's refusal, whose value is not 0: the address is inside the object that starts at `start`.
-pub fn inside(start: u32, r: Record) -> Answer
-    ensures { (heap labels links : List ℕ) → outcome result heap labels links ≡ inside start (lent heap labels links r) }
-{
-    Answer {
-        refusal: 10,
-        value: start,
-        rec: r,
+impl fmt::Display for Refusal {
+    fn fmt<W: fmt::Write>(&self, f: &mut fmt::Formatter<W>) -> fmt::Result {
+        match self {
+            Refusal::Layout => f.write_str("a wrong length, page size, number of pages or record"),
+            Refusal::Shape => f.write_str("too many words or references for an object"),
+            Refusal::CollectFirst => f.write_str("no room before a collection"),
+            Refusal::NothingThere => f.write_str("no object at the address"),
+            Refusal::Index => f.write_str("no such word in the object"),
+            Refusal::BadReference => f.write_str("a reference to no object"),
+            Refusal::Unsound => f.write_str("the heap is not sound"),
+            Refusal::BadEntry => f.write_str("a bad record of the session"),
+            Refusal::Inside(start) => write!(f, "inside the object at {start}"),
+        }
     }
 }
 
-// An accepted call's answer: its value, and the record as the call leaves it.
-pub fn accepted(value: u32, r: Record) -> Answer
-    ensures { (heap labels links : List ℕ) → outcome result heap labels links ≡ accepted value (lent heap labels links r) }
-{
-    Answer {
-        refusal: 0,
-        value,
-        rec: r,
-    }
+impl Error for Refusal {}
+
+// What an accepted call gives: its value, and the record as the call leaves it.
+#[derive(Clone, Copy)]
+pub struct Accepted {
+    pub value: u32,
+    pub rec: Record,
 }
 
-// What look-up answers where this is found at the address.
-pub fn told(found: Found, address: u32, r: Record) -> Answer
-    ensures { (heap labels links : List ℕ) → outcome result heap labels links ≡ told found address (lent heap labels links r) }
+// What an accepted collection gives: pages hinted, pages taken, objects copied, words copied, pages kept, fillers, and the
+// record as the collection leaves it.
+#[derive(Clone, Copy)]
+pub struct Counts {
+    pub hinted: u32,
+    pub taken: u32,
+    pub objects: u32,
+    pub words: u32,
+    pub kept: u32,
+    pub fillers: u32,
+    pub rec: Record,
+}
+
+// What look-up gives where this is found at the address.
+#[inline]
+#[tactic(auto, unfolding(rules::specs::Calls::accepted, rules::specs::Calls::inside, rules::specs::Calls::refused))]
+pub fn told(found: Found, address: u32, r: Record) -> Result<Accepted, Refusal>
+    ensures { (heap labels links : List ℕ) → outcome (answer r result) heap labels links ≡ told found address (lent heap labels links r) }
 {
     match found {
-        Found::Start(_) => accepted(address, r),
-        Found::Inside(s) => inside(s, r),
-        Found::Nothing => refused(4, r),
+        Found::Start(_) => Ok(Accepted {
+            value: address,
+            rec: r,
+        }),
+        Found::Inside(start) => Err(Refusal::Inside(start)),
+        Found::Nothing => Err(Refusal::NothingThere),
+    }
+}
+
+// A call's answer for C, where the call was given this record.
+#[inline]
+pub fn answer(r: Record, given: Result<Accepted, Refusal>) -> Answer
+    ensures { result ≡ answer r given }
+{
+    match given {
+        Ok(accepted) => Answer {
+            refusal: 0,
+            value: accepted.value,
+            rec: accepted.rec,
+        },
+        Err(refusal) => Answer {
+            refusal: refusal.number(),
+            value: refusal.value(),
+            rec: r,
+        },
+    }
+}
+
+// The same of a collection.
+#[inline]
+pub fn collected(r: Record, given: Result<Counts, Refusal>) -> Collected
+    ensures { result ≡ collected r given }
+{
+    match given {
+        Ok(counts) => Collected {
+            refusal: 0,
+            hinted: counts.hinted,
+            taken: counts.taken,
+            objects: counts.objects,
+            words: counts.words,
+            kept: counts.kept,
+            fillers: counts.fillers,
+            rec: counts.rec,
+        },
+        Err(refusal) => Collected {
+            refusal: refusal.number(),
+            hinted: 0,
+            taken: 0,
+            objects: 0,
+            words: 0,
+            kept: 0,
+            fillers: 0,
+            rec: r,
+        },
     }
 }

@@ -2,62 +2,45 @@
 
 #![tactic(auto)]
 
-ghost use Rattle.std.specs.Prelude.{◌≡◌, List, ℕ};
+ghost use Rattle.std.specs.Prelude.{◌≡◌};
 ghost use Rattle.rules.specs.Ranges.{each};
 ghost use Rattle.rules.specs.Lent.{lent};
 ghost use Rattle.rules.specs.Walk.{is_reference};
-ghost use Rattle.rules.specs.Collect.{collect_outcome, refusal_of_collect, refused_collect, collect};
+ghost use Rattle.rules.specs.Collect.{collect_outcome, refusal_of_collect, collect};
+ghost use Rattle.layout.specs.Code.{lent_of};
+ghost use Rattle.answers.specs.Answers.{collected};
+ghost use Rattle.collector.specs.Code.{number_if_any};
 
-use layout::{record, walk};
-use rules::{Collected, Record};
+use answers::{Counts, Refusal};
+use layout::lent::View;
+use rules::Record;
 
 // Each root cell is 0 or an object start.
-fn are_roots_good(heap: &[u32], labels: &[u16], r: Record, roots: &[u32]) -> bool
-    ensures { (links : List ℕ) → result ≡ each (is_reference (lent heap.now labels.now links r)) roots.now }
+fn are_references(view: &View<'_>, roots: &[u32]) -> bool
+    ensures { result ≡ each (is_reference (lent_of view.now)) roots.now }
 {
-    let mut i = 0;
-    while i < roots.len() {
-        if !walk::is_reference(heap, labels, r, roots[i]) {
-            return false;
-        }
-        i += 1;
-    }
-    true
+    roots.iter().all(|root| view.is_reference(*root))
 }
 
-// The refusal's number, 0 if all tests pass.
-fn refusal(heap: &[u32], labels: &[u16], links: &[u16], r: Record, roots: &[u32]) -> u32
-    ensures { result ≡ refusal_of_collect (lent heap.now labels.now links.now r) roots.now }
+// Whether all tests pass: of lengths and record, of soundness, and of the root cells.
+#[tactic(auto, unfolding(rules::specs::Collect::refusal_of_collect))]
+fn test(view: &View<'_>, roots: &[u32]) -> Result<(), Refusal>
+    ensures { number_if_any result ≡ refusal_of_collect (lent_of view.now) roots.now }
 {
-    if !record::is_valid(heap, labels, links, r) {
-        return 1;
+    if !view.is_valid() {
+        return Err(Refusal::Layout);
     }
-    if !sound::is_sound(heap, labels, links, r) {
-        return 7;
+    if !sound::is_sound(view) {
+        return Err(Refusal::Unsound);
     }
-    if !are_roots_good(heap, labels, r, roots) {
-        return 6;
+    if !are_references(view, roots) {
+        return Err(Refusal::BadReference);
     }
-    0
-}
-
-// A refused collection's answer: its number, six zeros, and the record it was given.
-fn refused(refusal: u32, r: Record) -> Collected
-    ensures { (heap labels links roots : List ℕ) → collect_outcome result heap labels links roots ≡ refused_collect refusal (lent heap labels links r) roots }
-{
-    Collected {
-        refusal,
-        hinted: 0,
-        taken: 0,
-        objects: 0,
-        words: 0,
-        kept: 0,
-        fillers: 0,
-        rec: r,
-    }
+    Ok(())
 }
 
 // The root cells may change; the hint words, from stack and registers, never do.
+#[tactic(auto, unfolding(rules::specs::Collect::collect))]
 pub fn collect(
     heap: &mut [u32],
     labels: &mut [u16],
@@ -65,12 +48,15 @@ pub fn collect(
     r: Record,
     roots: &mut [u32],
     hints: &[u32],
-) -> Collected
-    ensures { collect_outcome result heap.new labels.new links.new roots.new ≡ collect (lent heap.old labels.old links.old r) roots.old hints.now }
+) -> Result<Counts, Refusal>
+    ensures { collect_outcome (collected r result) heap.new labels.new links.new roots.new ≡ collect (lent heap.old labels.old links.old r) roots.old hints.now }
 {
-    let number = refusal(heap, labels, links, r, roots);
-    if number != 0 {
-        return refused(number, r);
-    }
-    phases::run(heap, labels, links, r, roots, hints)
+    let view = View {
+        heap,
+        labels,
+        links,
+        rec: r,
+    };
+    test(&view, roots)?;
+    Ok(phases::run(heap, labels, links, r, roots, hints))
 }

@@ -1,3 +1,3 @@
-pub mod Taking
-pub mod Keeping
 pub mod Copying
+pub mod Cursor
+pub mod Rooting

@@ -4,80 +4,64 @@
 #![tactic(auto)]
 
 mod calls;
+mod small;
 
+use std::fmt::Display;
 use std::io;
 
 // A line: the question and its answer.
-pub fn line(rt: &impl Print, asked: &[u8], answer: u64) -> io::Result<()> {
-    rt.write_all(asked)?;
-    println!(rt; "{answer}")
+pub fn say<T: Display + Drop>(rt: &impl Print, asked: &str, answer: T) -> io::Result<()> {
+    println!(rt; "{asked}{answer}")
 }
 
 fn headers(rt: &impl Print) -> io::Result<()> {
-    line(
-        rt,
-        b"* header of d 3, p 1: ",
-        numbers::header::header_of(3, 1),
-    )?;
-    line(
-        rt,
-        b"* header of d 0, p 0: ",
-        numbers::header::header_of(0, 0),
-    )?;
-    line(
-        rt,
-        b"* header of d 7, p 7: ",
-        numbers::header::header_of(7, 7),
-    )
-}
-
-fn page(rt: &impl Print, asked: &[u8], word: u32) -> io::Result<()> {
-    line(rt, asked, solver::fouterpin_page_named(word, 8, 6) as u64)
+    for (asked, d, p) in [
+        ("* header of d 3, p 1: ", 3, 1),
+        ("* header of d 0, p 0: ", 0, 0),
+        ("* header of d 7, p 7: ", 7, 7),
+    ] {
+        say(rt, asked, numbers::header::header_of(d, p))?;
+    }
+    Ok(())
 }
 
 fn pages(rt: &impl Print) -> io::Result<()> {
-    page(rt, b"* page named by word 7 with P 8, T 6: ", 7)?;
-    page(rt, b"* page named by word 8: ", 8)?;
-    page(rt, b"* page named by word 47: ", 47)?;
-    page(rt, b"* page named by word 48: ", 48)
-}
-
-fn before(rt: &impl Print, asked: &[u8], word: u32) -> io::Result<()> {
-    line(
-        rt,
-        asked,
-        solver::fouterpin_page_named_before(word, 8, 6) as u64,
-    )
-}
-
-fn befores(rt: &impl Print) -> io::Result<()> {
-    before(rt, b"* page named by the word before 48: ", 48)?;
-    before(rt, b"* page named by the word before 16: ", 16)?;
-    before(rt, b"* page named by the word before 8: ", 8)?;
-    before(rt, b"* page named by the word before 0: ", 0)
-}
-
-fn need(rt: &impl Print, asked: &[u8], words: u32, page: u32) -> io::Result<()> {
-    line(
-        rt,
-        asked,
-        solver::fouterpin_pages_needed(words, page) as u64,
-    )
+    for (asked, word) in [
+        ("* page named by word 7 with P 8, T 6: ", 7),
+        ("* page named by word 8: ", 8),
+        ("* page named by word 47: ", 47),
+        ("* page named by word 48: ", 48),
+    ] {
+        say(rt, asked, solver::fouterpin_page_named(word, 8, 6))?;
+    }
+    for (asked, word) in [
+        ("* page named by the word before 48: ", 48),
+        ("* page named by the word before 16: ", 16),
+        ("* page named by the word before 8: ", 8),
+        ("* page named by the word before 0: ", 0),
+    ] {
+        say(rt, asked, solver::fouterpin_page_named_before(word, 8, 6))?;
+    }
+    Ok(())
 }
 
 fn needed(rt: &impl Print) -> io::Result<()> {
-    need(rt, b"* pages needed for W 0 with P 8: ", 0, 8)?;
-    need(rt, b"* pages needed for W 8: ", 8, 8)?;
-    need(rt, b"* pages needed for W 9: ", 9, 8)?;
-    need(rt, b"pages needed for W 4294967295: ", 4294967295, 8)?;
-    need(rt, b"* pages needed for W 0 with P 0: ", 0, 0)?;
-    need(rt, b"* pages needed for W 9 with P 12: ", 9, 12)
+    for (asked, words, page) in [
+        ("* pages needed for W 0 with P 8: ", 0, 8),
+        ("* pages needed for W 8: ", 8, 8),
+        ("* pages needed for W 9: ", 9, 8),
+        ("pages needed for W 4294967295: ", 4294967295, 8),
+        ("* pages needed for W 0 with P 0: ", 0, 0),
+        ("* pages needed for W 9 with P 12: ", 9, 12),
+    ] {
+        say(rt, asked, solver::fouterpin_pages_needed(words, page))?;
+    }
+    Ok(())
 }
 
 fn main(rt: HostRuntime) -> io::Result<()> {
     headers(&rt)?;
     pages(&rt)?;
-    befores(&rt)?;
     needed(&rt)?;
     calls::starts(&rt)?;
     calls::allocations(&rt)?;

@@ -1,9 +1,8 @@
 -- Records of 8 bytes, and the step that each asks for. They are called entries here: `Record` is the control record.
-use Rattle.std.specs.Prelude.{Bool, true, false, cond, ◌&&◌, List, [], ◌∷◌, ℕ, ◌+◌, ◌*◌, length, eqb, leb, ltb}
+use Rattle.std.specs.Prelude.{Bool, true, false, cond, ◌&&◌, List, [], ◌∷◌, ℕ, ◌+◌, ◌*◌, length, eqb, leb, ltb, Option, Some, None, Result, Ok, Err}
 use Rattle.rules.specs.Ranges.{at, each}
 use Rattle.entries.specs.declared.Entry.{Entry}
-use Rattle.entries.specs.declared.Next.{Next}
-use Rattle.entries.specs.declared.Next.TheVariants.{Whole, Partial, Done}
+use Rattle.entries.specs.declared.Partial.{Partial}
 use Rattle.entries.specs.declared.Operand.{Operand}
 use Rattle.entries.specs.declared.Operand.TheVariants.{Root, Number}
 use Rattle.entries.specs.declared.Step.{Step}
@@ -18,8 +17,8 @@ abbrev pub entry_at : List ℕ → ℕ → Entry
 entry_at bytes a = record { op = at bytes a; x = at bytes (a + 1); y = at bytes (a + 2); i = at bytes (a + 3); v = word_at bytes (a + 4) }
 
 -- what stands at a: a whole record, "one to seven bytes", or nothing
-unfoldable pub next_at : List ℕ → ℕ → Next
-next_at bytes a = cond (leb (a + 8) (length bytes)) (Whole (entry_at bytes a)) (cond (ltb a (length bytes)) Partial Done)
+unfoldable pub next_at : List ℕ → ℕ → Option (Result Entry Partial)
+next_at bytes a = cond (leb (a + 8) (length bytes)) (Some (Ok (entry_at bytes a))) (cond (ltb a (length bytes)) (Some (Err (record {}))) None)
 
 -- The table of operations, by number. "A store's operand is thus either a root or a number."
 unfoldable pub decode : Entry → Step

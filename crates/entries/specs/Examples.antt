@@ -1,9 +1,8 @@
 -- The definitions are tried: antt computes bytes into entries, entries into steps, and which steps are allowed. Everything here
 -- is closed, and every proof is refl.
-use Rattle.std.specs.Prelude.{◌≡◌, refl, true, false, List, [], ◌∷◌, map, ℕ}
+use Rattle.std.specs.Prelude.{◌≡◌, refl, true, false, List, [], ◌∷◌, map, ℕ, Some, None, Ok, Err}
 use Rattle.rules.specs.Ranges.{each}
 use Rattle.entries.specs.declared.Entry.{Entry}
-use Rattle.entries.specs.declared.Next.TheVariants.{Whole, Partial, Done}
 use Rattle.entries.specs.declared.Operand.TheVariants.{Root, Number}
 use Rattle.entries.specs.declared.Step.{Step}
 use Rattle.entries.specs.declared.Step.TheVariants.{Start, Allocate, Store, Load, Hint, Clear, Collect, LookUp, Bad}
@@ -28,9 +27,9 @@ record Examples : Type 0 where
   -- "operation, x, y, i (a byte each), v": v is 5 + 6·256 + 7·65,536 + 8·16,777,216
   bytes_in_order : entry_at bytes 2 ≡ entry 1 2 3 4 134678021
   -- a whole record, with bytes behind it and with none; "one to seven bytes"; nothing, at the end and past it
-  whole : map (next_at bytes) (0 ∷ 2 ∷ []) ≡ Whole (entry 10 11 1 2 100992003) ∷ Whole (entry 1 2 3 4 134678021) ∷ []
-  partial : map (next_at bytes) (3 ∷ 9 ∷ []) ≡ Partial ∷ Partial ∷ []
-  done : map (next_at bytes) (10 ∷ 11 ∷ []) ≡ Done ∷ Done ∷ []
+  whole : map (next_at bytes) (0 ∷ 2 ∷ []) ≡ Some (Ok (entry 10 11 1 2 100992003)) ∷ Some (Ok (entry 1 2 3 4 134678021)) ∷ []
+  partial : map (next_at bytes) (3 ∷ 9 ∷ []) ≡ Some (Err (record {})) ∷ Some (Err (record {})) ∷ []
+  done : map (next_at bytes) (10 ∷ 11 ∷ []) ≡ None ∷ None ∷ []
   -- the table of operations: x is 21, y 22, i 23 and v 24. Above 8 there is none
   table : map (λ op. decode (entry op 21 22 23 24)) (0 ∷ 1 ∷ 2 ∷ 3 ∷ 4 ∷ 5 ∷ 6 ∷ 7 ∷ 8 ∷ 9 ∷ 255 ∷ [])
       ≡ Start 24 23 ∷ Allocate 21 23 22 ∷ Store 21 23 (Root 22) ∷ Store 21 23 (Number 24) ∷ Load 21 23 ∷ Hint 21 22 24 ∷ Clear 21

@@ -6,21 +6,20 @@ use mathlib.Core.List.{List, [], ◌∷◌, ◌++◌, append-nil}
 use Prim.Native.Nat.{ℕ, zero, suc, ◌+◌, ◌-◌, ◌*◌, ◌≤◌, ◌<◌}
 use native.Mathlib.Omega.{arith}
 use native.Mathlib.Numerals.{add-one}
-use lib.ListN.{length, take, drop, length-append, drop_of_length-le}
-use lib.Seq.{sets, drop-cons, get_or-take}
+use lib.ListN.{length, drop, replicate, length-append, drop_of_length-le}
+use lib.Seq.{sets, drop-cons}
 use Rattle.rules.specs.Ranges.{at}
-use Rattle.rules.specs.Header.{size_of, is_header}
+use Rattle.rules.specs.Header.{header_of, size_of, is_header}
 use Rattle.rules.specs.Collection.{Filled, is_left, filler, fill_place, fill_page, fill_pages}
 use Rattle.laws.specs.Headers.{Header, header_says, header_full, left_full}
 use Rattle.laws.specs.Fills.{filled_of, page_after}
 use Rattle.laws.specs.Safe.{SafeStep, SafeFill, SafeFills}
-use Rattle.hints.specs.Queue.{queue_length}
-use Rattle.fillers.specs.Places.{LeftBy, Turns, turns_none, turns_on}
+use Rattle.fillers.specs.Places.{LeftBy, Turns, turns_first, turns_none, turns_on}
 use Rattle.fillers.specs.Code.{FilledAs}
 
 -- ---- the places of a page, from address x to the page's end e, after n fillers
 
-pub record Filling (e : ℕ) (goal : Filled) (h : List ℕ) (n x : ℕ) : Type 0 where
+pub record Filling (base e : ℕ) (goal : Filled) (h : List ℕ) (n x : ℕ) : Type 0 where
   pub f : ℕ
   pub room : ℕ
   pub turns : Turns e x f room
@@ -28,8 +27,13 @@ pub record Filling (e : ℕ) (goal : Filled) (h : List ℕ) (n x : ℕ) : Type 0
   pub many : length places ≡ n
   pub same : fill_page f x room (filled_of h places) ≡ goal
   pub safe : SafeFill f x room h
+  pub within : x ≤ e
+  pub few : base + n ≤ x
 
-module _ (e : ℕ) (goal : Filled) (h : List ℕ) (n x : ℕ) (F : Filling e goal h n x) where
+pub filling_begin : (base P : ℕ) (h : List ℕ) → SafeFill P base P h → Filling base (base + P) (fill_page P base P (filled_of h [])) h 0 base
+filling_begin base P h safe = record { f = P; room = P; turns = turns_first base P; places = []; many = refl; same = refl; safe = safe; within = omega arith; few = omega arith }
+
+module _ {base e : ℕ} {goal : Filled} {h : List ℕ} {n x : ℕ} (F : Filling base e goal h n x) where
   stop_go : (f r : ℕ) (s : Filled) → is_header (at s.heap x) r ≡ false → is_left (at s.heap x) r ≡ false → fill_page f x r s ≡ s
   unfolding fill_page
   stop_go zero r s a b = refl
@@ -52,21 +56,35 @@ module _ (e : ℕ) (goal : Filled) (h : List ℕ) (n x : ℕ) (F : Filling e goa
     pub filling_safe : is_left (at h x) (e - x) ≡ true → SafeStep h (at h x) (e - x)
     filling_safe = left_go F.f F.room F.turns F.safe
 
-    -- a turn over an object, of m words
-    object_go : (f r : ℕ) → Turns e x f r → fill_page f x r (filled_of h F.places) ≡ goal → SafeFill f x r h → is_header (at h x) (e - x) ≡ true → Filling e goal h n (x + size_of (at h x))
+    -- a turn over an object
+    object_go : (f r : ℕ) → Turns e x f r → fill_page f x r (filled_of h F.places) ≡ goal → SafeFill f x r h → is_header (at h x) (e - x) ≡ true
+        → Filling base e goal h n (x + size_of (at h x)) × (1 ≤ size_of (at h x))
     unfolding fill_page SafeFill
     object_go zero r T q S y = absurd (turns_none T p)
     object_go (suc f) r T q S y =
         let y' : is_header (at h x) r ≡ true = rw T.place y in
         let H : Header (at h x) r = header_says _ _ y' in
-        record { f = f; room = r - size_of (at h x); turns = turns_on T (size_of (at h x)) (omega (arith, H.shape)); places = F.places; many = F.many; same = rw y' at q; safe = S.0 y' }
+        let some : 1 ≤ size_of (at h x) = omega (arith, H.shape) in (
+          record {
+            f = f;
+            room = r - size_of (at h x);
+            turns = turns_on T (size_of (at h x)) some;
+            places = F.places;
+            many = F.many;
+            same = rw y' at q;
+            safe = S.0 y';
+            within = omega (arith, H.fits, T.place);
+            few = omega (arith, F.few);
+          },
+          some,
+        )
 
-    pub filling_object : (m : ℕ) → is_header (at h x) (e - x) ≡ true → m ≡ size_of (at h x) → Filling e goal h n (x + m)
+    pub filling_object : (m : ℕ) → is_header (at h x) (e - x) ≡ true → m ≡ size_of (at h x) → Filling base e goal h n (x + m) × (1 ≤ m)
     filling_object m y q = rw q (object_go F.f F.room F.turns F.same F.safe y)
 
     -- a turn over a place that an object of m words left
     place_go : (f r m : ℕ) → Turns e x f r → fill_page f x r (filled_of h F.places) ≡ goal → SafeFill f x r h → is_header (at h x) (e - x) ≡ false → LeftBy h (at h x) (e - x) m
-        → Filling e goal (sets h x (filler m)) (n + 1) (x + m)
+        → Filling base e goal (sets h x (filler m)) (n + 1) (x + m)
     unfolding fill_page fill_place SafeFill
     place_go zero r m T q S y L = absurd (turns_none T p)
     place_go (suc f) r m T q S y L =
@@ -80,42 +98,42 @@ module _ (e : ℕ) (goal : Filled) (h : List ℕ) (n x : ℕ) (F : Filling e goa
           many = simp length-append (omega (arith, F.many));
           same = rw L.size (rw (y', l) at q);
           safe = rw L.size (S.1 l).1;
+          within = omega (arith, L.fits);
+          few = omega (arith, F.few, L.some);
         }
 
-    pub filling_place : (m : ℕ) → is_header (at h x) (e - x) ≡ false → LeftBy h (at h x) (e - x) m → (t : List ℕ) → t ≡ sets h x (filler m) → Filling e goal t (n + 1) (x + m)
+    pub filling_place : (m : ℕ) → is_header (at h x) (e - x) ≡ false → LeftBy h (at h x) (e - x) m → (t : List ℕ) → t ≡ sets h x (header_of (m - 1) 0 ∷ replicate (m - 1) 0) → Filling base e goal t (n + 1) (x + m)
+    unfolding filler
     filling_place m y L t q = rw q (place_go F.f F.room m F.turns F.same F.safe y L)
 
--- ---- the pages kept, the links from the i-th up to the tail, after n fillers
+-- ---- the pages kept, from the i-th on, after n fillers
 
-pub record Fillings (P : ℕ) (goal : Filled) (pages h : List ℕ) (n : ℕ) : Type 0 where
+pub record Fillings (P : ℕ) (kept : List ℕ) (goal : Filled) (h : List ℕ) (n i : ℕ) : Type 0 where
   pub places : List ℕ
   pub many : length places ≡ n
-  pub same : fill_pages P pages (filled_of h places) ≡ goal
-  pub safe : SafeFills P pages h
+  pub same : fill_pages P (drop i kept) (filled_of h places) ≡ goal
+  pub safe : SafeFills P (drop i kept) h
 
-module _ (P : ℕ) (goal : Filled) (links h : List ℕ) (tail i n : ℕ) (F : Fillings P goal (drop i (take tail links)) h n) (t : tail ≤ length links) where
-  len : length (take tail links) ≡ tail
-  len = queue_length links tail t
-
-  pub fillings_end : tail ≤ i → FilledAs goal h n
+module _ {P : ℕ} {kept : List ℕ} {goal : Filled} {h : List ℕ} {n i : ℕ} (F : Fillings P kept goal h n i) where
+  pub fillings_end : length kept ≤ i → FilledAs goal h n
   unfolding fill_pages
   fillings_end p =
-      let q : goal ≡ filled_of h F.places = sym F.same ∙ rw (drop_of_length-le (take tail links) {i = i} (omega (arith, len))) in
+      let q : goal ≡ filled_of h F.places = sym F.same ∙ rw (drop_of_length-le kept {i = i} p) in
       record { heap = rw q; places = rw q (sym F.many) }
 
-  module _ (p : i < tail) where
-    rest : drop i (take tail links) ≡ at links i ∷ drop (i + 1) (take tail links)
-    rest = drop-cons (take tail links) i 0 (omega (arith, len)) ∙ rw (get_or-take tail links i 0 p, add-one i)
+  module _ (p : i < length kept) where
+    rest : drop i kept ≡ at kept i ∷ drop (i + 1) kept
+    rest = drop-cons kept i 0 p ∙ rw (add-one i)
 
-    pub fillings_safe : (at links i * P + P ≤ length h) × SafeFill P (at links i * P) P h
+    pub fillings_safe : (at kept i * P + P ≤ length h) × SafeFill P (at kept i * P) P h
     unfolding SafeFills
     fillings_safe = let q = rw rest at F.safe in (q.0, q.1.0)
 
-    pub fillings_turn : (h' : List ℕ) (r : ℕ) → FilledAs (fill_page P (at links i * P) P (filled_of h [])) h' r → Fillings P goal (drop (i + 1) (take tail links)) h' (n + r)
+    pub fillings_turn : (h' : List ℕ) (r : ℕ) → FilledAs (fill_page P (at kept i * P) P (filled_of h [])) h' r → Fillings P kept goal h' (n + r) (i + 1)
     unfolding fill_pages SafeFills
     fillings_turn h' r A = record {
-      places = F.places ++ (fill_page P (at links i * P) P (filled_of h [])).places;
+      places = F.places ++ (fill_page P (at kept i * P) P (filled_of h [])).places;
       many = simp length-append (omega (arith, F.many, A.places));
-      same = rw (A.heap, ← (page_after P (at links i * P) P h F.places []), append-nil) (rw rest at F.same);
+      same = rw (A.heap, ← (page_after P (at kept i * P) P h F.places []), append-nil) (rw rest at F.same);
       safe = rw A.heap (rw rest at F.safe).1.1;
     }

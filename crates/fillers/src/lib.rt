@@ -5,58 +5,48 @@
 
 #![tactic(auto)]
 
-ghost use Rattle.std.specs.Prelude.{◌≡◌, true, [], ◌+◌, ◌-◌, ◌≤◌, length, take, drop};
+ghost use Rattle.std.specs.Prelude.{◌≡◌, true, false, [], ◌+◌, ◌≤◌, length, MatchOption};
 ghost use Rattle.rules.specs.Collection.{is_left, fill_page, fill_pages};
 ghost use Rattle.laws.specs.Safe.{SafeStep, SafeFill, SafeFills};
-ghost use Rattle.fillers.specs.Places.{left_size};
+ghost use Rattle.fillers.specs.Places.{LeftBy};
 ghost use Rattle.fillers.specs.Code.{FilledAs};
 
-use copies::Gather;
 use heap::object;
-use hints::Shape;
 use numbers::header;
 
-// A link as wide as a place in a slice.
-pub fn wide(x: u16) -> usize
-    ensures { result ≡ x }
-{
-    x as usize
-}
-
 // The length at the copy, if an object was copied out of the place that begins with `word`, where there are
-// `room` words before the page's end; otherwise 0.
-pub fn left_size(heap: &[u32], word: u32, room: usize) -> usize
+// `room` words before the page's end.
+#[tactic(auto, unfolding(rules::specs::Collection::size_at_copy))]
+pub fn left_size(heap: &[u32], word: u32, room: usize) -> Option<usize>
     requires { is_left word room ≡ true → SafeStep heap.now word room }
-    ensures { result ≡ left_size heap.now word room }
+    ensures { MatchOption result (is_left word room ≡ false) (λ n. LeftBy heap.now word room n) }
 {
     if !header::is_left(word, room) {
-        return 0;
+        return None;
     }
-    let copy = (word / 2) as usize;
-    header::size_of(heap[copy])
+    let copy = word / 2;
+    Some(header::size_of(heap[copy as usize]))
 }
 
-// The page that begins at address `base`, and how many fillers it gets. The walk is the sweep's.
-fn fill_page(heap: &mut [u32], k: Shape, base: usize) -> u32
-    requires page_bound { (k.page ≤ 1024) × (base + k.page ≤ length heap.old) }
-    requires safe_fill { SafeFill k.page base k.page heap.old }
-    ensures filled_as { FilledAs (fill_page k.page base k.page (record { heap = heap.entry.now; places = [] })) heap.exit.now result }
-    ensures upper_bound { result ≤ k.page }
+// The page of `page` words that begins at address `base`, and how many fillers it gets. The walk is the sweep's.
+fn fill_page(heap: &mut [u32], page: u32, base: usize) -> u32
+    requires page_bound { (page ≤ 1024) × (base + page ≤ length heap.old) }
+    requires safe_fill { SafeFill page base page heap.old }
+    ensures filled_as { FilledAs (fill_page page base page (record { heap = heap.entry.now; places = [] })) heap.exit.now result }
+    ensures upper_bound { result ≤ page }
 {
-    let mut n: u32 = 0;
-    let end = base + k.page as usize;
+    let mut n = 0;
+    let end = base + page as usize;
     let mut x = base;
     while x < end {
         let word = heap[x];
         if header::is_header(word, end - x) {
             x += header::size_of(word);
         } else {
-            let size = left_size(heap, word, end - x);
-            if size == 0 {
+            let Some(size) = left_size(heap, word, end - x) else {
                 return n;
-            }
-            let d = size as u32 - 1;
-            object::put(heap, x, d, 0);
+            };
+            object::put(heap, x, size as u32 - 1, 0);
             n += 1;
             x += size;
         }
@@ -64,19 +54,15 @@ fn fill_page(heap: &mut [u32], k: Shape, base: usize) -> u32
     n
 }
 
-// The last `kept` pages of the queue, in order; and how many fillers there are.
-pub fn fill_pages(heap: &mut [u32], links: &[u16], k: Shape, g: Gather) -> u32
-    requires page_bound { (k.page ≤ 1024) × (g.kept ≤ g.tail) × (g.tail ≤ length links.now) × (length links.now ≤ 4096) }
-    requires safe_fills { SafeFills k.page (drop (g.tail - g.kept) (take g.tail links.now)) heap.old }
-    ensures { FilledAs (fill_pages k.page (drop (g.tail - g.kept) (take g.tail links.now)) (record { heap = heap.entry.now; places = [] })) heap.exit.now result }
+// The kept pages, in order; and how many fillers there are.
+pub fn fill_pages(heap: &mut [u32], kept: &[u16], page: u32) -> u32
+    requires page_bound { (page ≤ 1024) × (length kept.now ≤ 4096) }
+    requires safe_fills { SafeFills page kept.now heap.old }
+    ensures { FilledAs (fill_pages page kept.now (record { heap = heap.entry.now; places = [] })) heap.exit.now result }
 {
-    let mut n: u32 = 0;
-    let tail = g.tail as usize;
-    let mut i = tail - g.kept as usize;
-    while i < tail {
-        let page = wide(links[i]);
-        n += fill_page(heap, k, page * k.page as usize);
-        i += 1;
+    let mut n = 0;
+    for g in kept {
+        n += fill_page(heap, page, usize::from(*g) * page as usize);
     }
     n
 }

@@ -6,43 +6,48 @@
 pub mod object;
 
 ghost use Rattle.std.specs.Prelude.{◌≡◌};
+ghost use Rattle.rules.specs.declared.Record.{Record as Given};
 ghost use Rattle.rules.specs.Lent.{lent};
 ghost use Rattle.rules.specs.Calls.{outcome, start, allocate};
+ghost use Rattle.answers.specs.Answers.{answer};
 
+use answers::{Accepted, Refusal};
+use layout::lent::View;
 use layout::{record, tables};
 use numbers::pages;
-use rules::{Answer, Record};
+use rules::Record;
 
-// The memory is zeroed, with current label 1 and no open page. It takes any record, and gives it back where it refuses.
+// The memory is zeroed, with current label 1 and no open page. What record there was before does not matter.
+#[tactic(auto, unfolding(rules::specs::Calls::start, rules::specs::Calls::refused, rules::specs::Calls::accepted))]
 pub fn start(
     heap: &mut [u32],
     labels: &mut [u16],
     links: &mut [u16],
-    r: Record,
     page: u32,
     pages: u32,
-) -> Answer
-    ensures { outcome result heap.new labels.new links.new ≡ start (lent heap.old labels.old links.old r) page pages }
+) -> Result<Accepted, Refusal>
+    ensures { (r : Given) → outcome (answer r result) heap.new labels.new links.new ≡ start (lent heap.old labels.old links.old r) page pages }
 {
     let size = pages::page_at_start(page);
     if !record::is_laid_out(heap.len(), labels.len(), links.len(), size, pages) {
-        return answers::refused(1, r);
+        return Err(Refusal::Layout);
     }
-    tables::clear32(heap);
-    tables::clear16(labels);
-    tables::clear16(links);
-    let fresh = Record {
+    heap.fill(0);
+    labels.fill(0);
+    links.fill(0);
+    let rec = Record {
         page: size,
         pages,
         label: 1,
         opened: 0,
         fill: size,
     };
-    answers::accepted(0, fresh)
+    Ok(Accepted { value: 0, rec })
 }
 
 // An object of d payload words, the first p of them references: at fill if it fits the open page, and only otherwise are
 // the labels looked at.
+#[tactic(auto, using(crate::proofs::Laws::bounds, crate::proofs::Laws::free_page), unfolding(rules::specs::Calls::allocate, rules::specs::Calls::refused, rules::specs::Calls::accepted))]
 pub fn allocate(
     heap: &mut [u32],
     labels: &mut [u16],
@@ -50,31 +55,40 @@ pub fn allocate(
     r: Record,
     d: u32,
     p: u32,
-) -> Answer
-    ensures { outcome result heap.new labels.new links.now ≡ allocate (lent heap.old labels.old links.now r) d p }
+) -> Result<Accepted, Refusal>
+    ensures { outcome (answer r result) heap.new labels.new links.now ≡ allocate (lent heap.old labels.old links.now r) d p }
 {
-    if !record::is_valid(heap, labels, links, r) {
-        return answers::refused(1, r);
+    let view = View {
+        heap,
+        labels,
+        links,
+        rec: r,
+    };
+    if !view.is_valid() {
+        return Err(Refusal::Layout);
     }
-    if r.page - 1 < d {
-        return answers::refused(2, r);
-    }
-    if d < p {
-        return answers::refused(2, r);
+    if r.page - 1 < d || d < p {
+        return Err(Refusal::Shape);
     }
     let n = d + 1;
     if r.fill + n <= r.page {
         let at = r.opened * r.page + r.fill;
         object::put(heap, at as usize, d, p);
-        return answers::accepted(at, r.opening(r.opened, r.fill + n));
+        return Ok(Accepted {
+            value: at,
+            rec: r.opening(r.opened, r.fill + n),
+        });
     }
     if r.pages - 1 < 3 * tables::pages_used(labels, 1, r.pages) + 2 {
-        return answers::refused(3, r);
+        return Err(Refusal::CollectFirst);
     }
-    let g = tables::lowest_free(labels, 1, r.pages);
-    let taken = g as usize;
-    labels[taken] = r.label as u16;
-    let at = g * r.page;
-    object::put(heap, at as usize, d, p);
-    answers::accepted(at, r.opening(g, n))
+    // So few pages are in use that one is free.
+    let g = tables::lowest_free(labels, 1, r.pages).unwrap();
+    labels[g as usize] = r.label as u16;
+    let first = g * r.page;
+    object::put(heap, first as usize, d, p);
+    Ok(Accepted {
+        value: first,
+        rec: r.opening(g, n),
+    })
 }

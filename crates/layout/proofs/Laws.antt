@@ -1,23 +1,26 @@
 -- Laws of the definitions as the code of this crate meets them: the walk for a look-up, which leaves off as soon as the address is met
 -- or passed. Assumes nothing.
-use mathlib.Core.Path.{◌≡◌, refl, ◌∙◌}
-use mathlib.Core.Logic.{◌⊎◌, inr, ⊎_elim}
-use mathlib.Core.Bool.{true, false}
+use mathlib.Core.Path.{◌≡◌, refl, sym, ◌∙◌}
+use mathlib.Core.Logic.{◌⊎◌, ◌≢◌, inl, inr, ⊎_elim}
+use mathlib.Core.Bool.{true, false, true≢false}
 use mathlib.Core.List.{List, ◌∷◌}
-use Prim.Native.Nat.{ℕ, ◌+◌, ◌*◌, ◌-◌, ◌/◌, ◌≤◌, ◌<◌}
+use Prim.Native.Nat.{ℕ, ◌+◌, ◌*◌, ◌-◌, ◌/◌, ◌≤◌, ◌<◌, min}
 use native.Mathlib.Omega.{arith}
+use Rattle.std.proofs.Math.Nat.{div-zero}
+use Rattle.std.proofs.Math.Decide.{dec_lt}
 use lib.ListN.{length}
 use lib.Dec.{eqb, leb}
 use borrow.Author.Tests.{eq-eqb, ne_eqb, le-leb, lt-leb, lt-ltb, le-ltb}
 use Rattle.rules.specs.declared.Found.TheVariants.{Start, Inside, Nothing}
 use Rattle.rules.specs.Ranges.{at}
 use Rattle.rules.specs.Header.{size_of, is_header}
+use Rattle.rules.specs.Pages.{page_named}
 use Rattle.rules.specs.Lent.{Lent}
 use Rattle.rules.specs.Walk.{landing, found}
-use Rattle.rules.specs.Sound.{InUse}
 use Rattle.laws.specs.Headers.{header_says, header_is, header_room}
 use Rattle.laws.specs.Walk.{size, objects, objects_end, objects_step, starts_are}
-use Rattle.laws.specs.LookUp.{in_use_is, no_header}
+use Rattle.laws.specs.LookUp.{in_use_is, no_header, look_low, look_high, look_label}
+use Rattle.laws.specs.Pages.{named_low, named_high, named_is, page_on}
 
 -- a header's form: that of a header where there is room for it. A word has it if it is a header, and is a header if it has it and there is room
 pub header_form : (w room : ℕ) → is_header w room ≡ true → is_header w (size_of w) ≡ true
@@ -39,34 +42,72 @@ module _ (h : List ℕ) (base e a : ℕ) where
   coming_begins from to = record { below = from; ahead = λ p. refl; inside = λ p q. absurd (omega arith); over = λ p. absurd (omega arith) }
 
   module _ (b last : ℕ) (C : Coming h base e a b last) where
-    pub coming_on : a < e → b < a → is_header (at h b) (size h b) ≡ true → (n : ℕ) → n ≡ size h b → Coming h base e a (b + n) b
+    -- it goes on by a header's form: n words
+    pub coming_on : a < e → b < a → (n : ℕ) → n ≡ size h b → is_header (at h b) n ≡ true → (0 < n) × Coming h base e a (b + n) b
     unfolding landing
-    coming_on to l q n en =
-        rw en (record {
-          below = omega arith;
-          ahead = λ p. C.ahead (omega arith) ∙ rw (fits (omega arith), ne, lt-ltb b a l, le-ltb a (b + size h b) p);
-          inside = λ p r. C.ahead (omega arith) ∙ rw (fits r, ne, lt-ltb b a l, lt-ltb a (b + size h b) p);
-          over = λ p. C.ahead (omega arith) ∙ rw (objects_end h b e (form_header _ _ q ∙ lt-leb (size h b) (e - b) (omega arith)));
-        })
+    coming_on to l n en q = (
+      omega (arith, (header_says _ _ q).shape),
+      rw en (record {
+        below = omega arith;
+        ahead = λ p. C.ahead (omega arith) ∙ rw (fits (omega arith), ne, lt-ltb b a l, le-ltb a (b + size h b) p);
+        inside = λ p r. C.ahead (omega arith) ∙ rw (fits r, ne, lt-ltb b a l, lt-ltb a (b + size h b) p);
+        over = λ p. C.ahead (omega arith) ∙ rw (objects_end h b e (form_header _ _ form ∙ lt-leb (size h b) (e - b) (omega arith)));
+      }),
+    )
       where
+        form : is_header (at h b) (size h b) ≡ true
+        form = rw en at q
+
         ne : eqb a b ≡ false
         ne = ne_eqb a b (omega arith)
 
         fits : b + size h b ≤ e → objects h b e ≡ b ∷ objects h (b + size h b) e
-        fits r = objects_step h b e (form_header _ _ q ∙ le-leb (size h b) (e - b) (omega arith))
+        fits r = objects_step h b e (form_header _ _ form ∙ le-leb (size h b) (e - b) (omega arith))
 
     -- no header stands where it has come to, past the heap or there
     pub coming_none : (length h ≤ b) ⊎ (is_header (at h b) (e - b) ≡ false) → b ≤ a → landing h a (objects h base e) ≡ Nothing
     unfolding landing
     coming_none q l = C.ahead l ∙ rw (objects_end h b e (⊎_elim (λ w. no_header h b e (inr w)) (λ w. w) q))
 
-    -- a header stands there, at the address
-    pub coming_met : is_header (at h b) (e - b) ≡ true → a ≡ b → landing h a (objects h base e) ≡ Start (at h b)
+    -- a header stands there, so that what it left off for is the address
+    pub coming_met : is_header (at h b) (e - b) ≡ true → b ≤ a → b < length h → (min a (length h) ≤ b) ⊎ (is_header (at h b) (size h b) ≡ false) → landing h a (objects h base e) ≡ Start (at h b)
     unfolding landing
-    coming_met q z = C.ahead (omega arith) ∙ rw (objects_step h b e q, eq-eqb a b z)
+    coming_met q l inside left = C.ahead l ∙ rw (objects_step h b e q, eq-eqb a b (⊎_elim (λ n. omega arith) (λ n. absurd (true≢false (sym (header_form _ _ q) ∙ n))) left))
 
--- what is found on a page in use
-pub found_in_use : (m : Lent) (a base : ℕ) → InUse m (a / m.rec.page) → base ≡ a / m.rec.page * m.rec.page
-    → found m a ≡ landing m.heap a (objects m.heap base (base + m.rec.page))
-unfolding found
-found_in_use m a base u e = rw (in_use_is m _ u, starts_are m (a / m.rec.page), e)
+-- ---- the page of an address, as a look-up asks for it: the page from 1 to T - 1 that it names, 0 for none
+
+module _ (P T a g : ℕ) (e : g ≡ page_named P 1 T a) where
+  pub named_no : g ≡ 0 → (a / P < 1) ⊎ (T ≤ a / P)
+  named_no z = go (dec_lt (a / P) 1) (dec_lt (a / P) T)
+    where
+      go : Dec (a / P < 1) → Dec (a / P < T) → (a / P < 1) ⊎ (T ≤ a / P)
+      go (yes l) d = inl l
+      go (no l) (yes k) = absurd (omega (arith, named_is P 1 T a (omega arith) k))
+      go (no l) (no k) = inr (omega arith)
+
+  pub named_on : 1 ≤ g → (a / P ≡ g) × ((g * P ≤ a) × (a < g * P + P))
+  named_on p = go (dec_lt (a / P) 1) (dec_lt (a / P) T)
+    where
+      go : Dec (a / P < 1) → Dec (a / P < T) → (a / P ≡ g) × ((g * P ≤ a) × (a < g * P + P))
+      go (yes l) d = absurd (omega (arith, named_low P 1 T a l))
+      go (no l) (no k) = absurd (omega (arith, named_high P 1 T a (omega arith)))
+      go (no l) (yes k) =
+          let q : a / P ≡ g = omega (arith, named_is P 1 T a (omega arith) k) in
+          (q, page_on (pos (dec_lt 0 P) q) a g q)
+        where
+          pos : Dec (0 < P) → a / P ≡ g → 0 < P
+          pos (yes z) q = z
+          pos (no z) q = absurd (let w : P ≡ 0 = omega arith in omega (arith, rw w at q, div-zero a))
+
+module _ (m : Lent) (a g : ℕ) (e : g ≡ page_named m.rec.page 1 m.rec.pages a) where
+  pub found_on : 1 ≤ g → g < m.rec.pages → at m.labels g ≡ m.rec.label → found m a ≡ landing m.heap a (objects m.heap (g * m.rec.page) (g * m.rec.page + m.rec.page))
+  unfolding found
+  found_on low high l =
+      let q : a / m.rec.page ≡ g = (named_on m.rec.page m.rec.pages a g e low).0 in
+      rw (q, in_use_is m g (record { low = low; high = high; label = l }), starts_are m g)
+
+  pub found_off : 1 ≤ g → at m.labels g ≢ m.rec.label → found m a ≡ Nothing
+  found_off low n = look_label m a (rw (named_on m.rec.page m.rec.pages a g e low).0 n)
+
+  pub found_no : g ≡ 0 → found m a ≡ Nothing
+  found_no z = ⊎_elim (look_low m a) (look_high m a) (named_no m.rec.page m.rec.pages a g e z)

@@ -1,70 +1,54 @@
 // The control record, the lengths of what is lent, and when both are valid.
 ghost use Rattle.std.specs.Prelude.{◌≡◌};
 ghost use Rattle.rules.specs.Ranges.{at};
-ghost use Rattle.rules.specs.Lent.{lent, is_laid_out, is_open, is_valid};
+ghost use Rattle.rules.specs.Lent.{is_laid_out, is_open, is_valid};
+ghost use Rattle.layout.specs.Code.{lent_of};
 
-use numbers::{header, pages};
-use rules::Record;
+use crate::lent::View;
+use numbers::pages;
 
 // The label of page g; 0, as of a free page, where there is no such page.
+#[inline]
 pub fn label_at(labels: &[u16], g: usize) -> u32
     ensures { result ≡ at labels.now g }
 {
-    if g < labels.len() {
-        labels[g] as u32
-    } else {
-        0
-    }
+    labels.get(g).map_or(0, |label| u32::from(*label))
 }
 
 // Good P and T, and the lengths that go with them.
+#[inline]
+#[tactic(auto, unfolding(rules::specs::Lent::is_laid_out))]
 pub fn is_laid_out(heap: usize, labels: usize, links: usize, page: u32, pages: u32) -> bool
     ensures { result ≡ is_laid_out heap labels links page pages }
 {
-    if !pages::is_shape(page, pages) {
-        return false;
-    }
-    let p = page as usize;
     let t = pages as usize;
-    if heap != t * p {
-        return false;
-    }
-    if labels != t {
-        return false;
-    }
-    links == t
+    pages::is_shape(page, pages) && heap == t * page as usize && labels == t && links == t
 }
 
-// The open page and the fill.
-pub fn is_open(labels: &[u16], r: Record) -> bool
-    ensures { result ≡ is_open labels.now r }
-{
-    let opened = r.opened;
-    if opened == 0 {
-        return r.fill == r.page;
+impl View<'_> {
+    // The open page and the fill.
+    #[inline]
+    #[tactic(auto, unfolding(rules::specs::Lent::is_open))]
+    pub fn is_open(&self) -> bool
+        ensures { result ≡ is_open self.now.labels.now self.now.rec }
+    {
+        let r = self.rec;
+        if r.opened == 0 {
+            return r.fill == r.page;
+        }
+        r.opened < r.pages && self.label_at(r.opened) == r.label && (1..=r.page).contains(&r.fill)
     }
-    if r.pages <= opened {
-        return false;
-    }
-    if label_at(labels, opened as usize) != r.label {
-        return false;
-    }
-    if r.fill < 1 {
-        return false;
-    }
-    r.fill <= r.page
-}
 
-// Not refused 1: lengths, P, T and record are right.
-pub fn is_valid(heap: &[u32], labels: &[u16], links: &[u16], r: Record) -> bool
-    ensures { result ≡ is_valid (lent heap.now labels.now links.now r) }
-{
-    if !is_laid_out(heap.len(), labels.len(), links.len(), r.page, r.pages) {
-        return false;
-    }
-    let label = r.label;
-    match label {
-        1 | 2 => is_open(labels, r),
-        _ => false,
+    // Not refused 1: lengths, P, T and record are right.
+    #[inline]
+    #[tactic(auto, unfolding(rules::specs::Lent::is_valid, rules::specs::Lent::is_label))]
+    pub fn is_valid(&self) -> bool
+        ensures { result ≡ is_valid (lent_of self.now) }
+    {
+        let r = self.rec;
+        let (heap, labels, links) = (self.heap.len(), self.labels.len(), self.links.len());
+        is_laid_out(heap, labels, links, r.page, r.pages)
+            && matches!(r.label, 1 | 2)
+            && self.is_open()
     }
 }

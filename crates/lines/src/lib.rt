@@ -1,4 +1,4 @@
-// Lines in decimal, put one after another into a lent buffer, and the tally that the last one tells.
+// Lines in decimal, appended to a text of fixed room, and the tally that the last one tells.
 
 #![tactic(auto)]
 

@@ -1,11 +1,10 @@
-// The running tally, by value and lent. `tallied` takes and gives the tally by value, so that those who call it need lend
-// nothing.
+// The running tally.
 ghost use Rattle.std.specs.Prelude.{◌≡◌};
-ghost use Rattle.lines.specs.Lines.{none, noted};
-ghost use Rattle.lines.specs.Put.{Adds};
+ghost use Rattle.lines.specs.Lines.{noted};
+ghost use Rattle.lines.specs.Adds.{Adds};
 
-// How many records there were, how many of them were accepted, and how many refused.
-#[derive(Clone, Copy)]
+// How many records there were, how many of them were accepted, and how many refused. The default is none.
+#[derive(Clone, Copy, Debug, Default, PartialEq, Eq)]
 pub struct Tally {
     pub records: u32,
     pub accepted: u32,
@@ -13,45 +12,17 @@ pub struct Tally {
 }
 
 impl Tally {
-    pub fn new() -> Self
-        ensures { result ≡ none }
+    // One record more, accepted where the refusal is 0.
+    #[tactic(auto, unfolding(crate::specs::Lines::noted))]
+    pub fn note(&mut self, refusal: u32)
+        requires { Adds self.old }
+        ensures { self.new ≡ noted self.old refusal }
     {
-        Tally {
-            records: 0,
-            accepted: 0,
-            refused: 0,
-        }
-    }
-
-    // One record more, accepted or refused.
-    pub fn noted(mut self, refusal: u32) -> Self
-        requires { Adds self }
-        ensures { result ≡ noted self refusal }
-    {
-        self.records = self.records + 1;
+        self.records += 1;
         if refusal == 0 {
-            self.accepted = self.accepted + 1;
+            self.accepted += 1;
         } else {
-            self.refused = self.refused + 1;
+            self.refused += 1;
         }
-        self
     }
-}
-
-// One record more, in a tally that is lent.
-pub fn note(t: &mut Tally, refusal: u32)
-    requires { Adds t.old }
-    ensures { t.new ≡ noted t.old refusal }
-{
-    *t = (*t).noted(refusal);
-}
-
-// One record more, by value: a local is lent for it.
-pub fn tallied(t: Tally, refusal: u32) -> Tally
-    requires { Adds t }
-    ensures { result ≡ noted t refusal }
-{
-    let mut running = t;
-    note(&mut running, refusal);
-    running
 }

@@ -1,49 +1,41 @@
-// Lines in decimal, put one after another into a lent buffer.
-ghost use Rattle.std.specs.Prelude.{◌+◌, ◌≤◌, length};
+// Lines in decimal, appended to a text that has room for them.
+ghost use Rattle.std.specs.Prelude.{◌≡◌, ◌++◌, ◌+◌, ◌≤◌, length};
+ghost use Rattle.arrayvec.specs.ArrayString.{array_string_len};
 ghost use Rattle.lines.specs.Lines.{number, line, ending};
-ghost use Rattle.lines.specs.Put.{Put};
 
 use crate::tally::Tally;
+use arrayvec::ArrayString;
+use itoa::Buffer;
 
-// Puts the text at place `a`, and answers the place behind it.
-fn put_text(out: &mut [u8], a: usize, text: &[u8]) -> usize
-    requires { a + length text.now ≤ length out.old }
-    ensures { Put out.old out.new a result text.now (length text.now) }
+// Appends n in decimal, and then the byte `end`.
+fn push_number<const CAP: usize>(out: &mut ArrayString<CAP>, n: u32, end: &str)
+    requires { (array_string_len out.old + 11 ≤ CAP) × (length end.now ≤ 1) }
+    ensures text { out.new.bytes ≡ out.old.bytes ++ number n end.now }
+    ensures near { array_string_len out.new ≤ array_string_len out.old + 11 }
 {
-    let mut i = 0;
-    while i < text.len() {
-        out[a + i] = text[i];
-        i += 1;
-    }
-    a + i
+    let mut buffer = Buffer::new();
+    out.push_str(buffer.format(n));
+    out.push_str(end);
 }
 
-// Puts n in decimal, and then the byte `end`.
-fn put_number(out: &mut [u8], a: usize, n: u32, end: &[u8]) -> usize
-    requires { (a + 11 ≤ length out.old) × (length end.now ≤ 1) }
-    ensures { Put out.old out.new a result (number n end.now) 11 }
+// Appends a line of three numbers, of 33 bytes at most.
+#[tactic(auto, unfolding(crate::specs::Lines::line))]
+pub fn push_line<const CAP: usize>(out: &mut ArrayString<CAP>, a: u32, b: u32, c: u32)
+    requires { array_string_len out.old + 33 ≤ CAP }
+    ensures text { out.new.bytes ≡ out.old.bytes ++ line a b c }
+    ensures near { array_string_len out.new ≤ array_string_len out.old + 33 }
 {
-    let mut digits = [0u8; 20];
-    let k = io::decimal(n as u64, &mut digits);
-    let b = put_text(out, a, &digits[..k]);
-    put_text(out, b, end)
+    push_number(out, a, " ");
+    push_number(out, b, " ");
+    push_number(out, c, "\n");
 }
 
-// Puts a line of three numbers.
-pub fn put_line(out: &mut [u8], at: usize, a: u32, b: u32, c: u32) -> usize
-    requires { at + 33 ≤ length out.old }
-    ensures { Put out.old out.new at result (line a b c) 33 }
+// Appends the last line: the word `end`, and the tally.
+#[tactic(auto, unfolding(crate::specs::Lines::ending))]
+pub fn push_ending<const CAP: usize>(out: &mut ArrayString<CAP>, tally: Tally)
+    requires { array_string_len out.old + 37 ≤ CAP }
+    ensures { out.new.bytes ≡ out.old.bytes ++ ending tally }
 {
-    let second = put_number(out, at, a, b" ");
-    let third = put_number(out, second, b, b" ");
-    put_number(out, third, c, b"\n")
-}
-
-// Puts the last line: the word `end`, and the tally.
-pub fn put_ending(out: &mut [u8], at: usize, t: Tally) -> usize
-    requires { at + 37 ≤ length out.old }
-    ensures { Put out.old out.new at result (ending t) 37 }
-{
-    let numbers = put_text(out, at, b"end ");
-    put_line(out, numbers, t.records, t.accepted, t.refused)
+    out.push_str("end ");
+    push_line(out, tally.records, tally.accepted, tally.refused);
 }

@@ -1,23 +1,15 @@
 -- Laws of the definitions as the code of this crate meets them: what is found. Assumes nothing.
-use mathlib.Core.Path.{◌≡◌, refl}
+use mathlib.Core.Path.{◌≡◌}
 use mathlib.Core.Bool.{true}
 use Prim.Native.Nat.{ℕ, ◌+◌, ◌≤◌}
 use native.Mathlib.Omega.{arith}
 use lib.ListN.{length}
-use Rattle.rules.specs.declared.Found.{Found}
-use Rattle.rules.specs.declared.Found.TheVariants.{Start, Inside, Nothing}
-use Rattle.rules.specs.Calls.{Outcome, told, on_start}
+use Rattle.rules.specs.declared.Found.TheVariants.{Start}
 use Rattle.rules.specs.Header.{size_of}
 use Rattle.rules.specs.Lent.{Lent, is_valid}
 use Rattle.rules.specs.Walk.{found}
 use Rattle.laws.specs.Valid.{valid_laid}
 use Rattle.laws.specs.LookUp.{placed, found_object}
-
--- where no object start is found, look-up's answer is passed on
-pub not_start : (f : Found) → ((w : ℕ) → f ≡ Start w → ⊥) → (a : ℕ) (m : Lent) (go : ℕ → Outcome) → on_start f a m go ≡ told f a m
-not_start (Start w) k a m go = absurd (k w refl)
-not_start (Inside s) k a m go = refl
-not_start Nothing k a m go = refl
 
 -- an object that was found has a size, and lies in the heap
 pub found_within : (m : Lent) (a w : ℕ) → is_valid m ≡ true → found m a ≡ Start w → (1 ≤ size_of w) × (a + size_of w ≤ length m.heap)

@@ -3,60 +3,78 @@
 
 #![tactic(auto)]
 
-ghost use Rattle.std.specs.Prelude.{◌≡◌, List, ℕ};
+ghost use Rattle.std.specs.Prelude.{◌≡◌, ℕ, ◌+◌, ◌<◌, length, IfOk};
 ghost use Rattle.rules.specs.Lent.{lent};
-ghost use Rattle.rules.specs.Calls.{outcome, look_up, load, may_store, store};
+ghost use Rattle.rules.specs.Calls.{Outcome, outcome, look_up, load, may_store, store};
+ghost use Rattle.layout.specs.Code.{lent_of};
+ghost use Rattle.answers.specs.Answers.{answer};
+ghost use Rattle.objects.specs.Code.{payload_word, go_on};
 
-use layout::{record, walk};
+use answers::{Accepted, Refusal};
+use layout::lent::View;
 use numbers::header;
-use rules::{Answer, Found, Record};
+use rules::{Found, Record};
 
 // An object starts at the address, the address is inside one, or nothing is there.
-pub fn look_up(heap: &[u32], labels: &[u16], links: &[u16], r: Record, address: u32) -> Answer
-    ensures { outcome result heap.now labels.now links.now ≡ look_up (lent heap.now labels.now links.now r) address }
+#[inline]
+#[tactic(auto, unfolding(rules::specs::Calls::look_up, rules::specs::Calls::refused))]
+pub fn look_up(view: &View<'_>, address: u32) -> Result<Accepted, Refusal>
+    ensures { outcome (answer view.now.rec result) view.now.heap.now view.now.labels.now view.now.links.now ≡ look_up (lent_of view.now) address }
 {
-    if !record::is_valid(heap, labels, links, r) {
-        return answers::refused(1, r);
+    if !view.is_valid() {
+        return Err(Refusal::Layout);
     }
-    answers::told(walk::find(heap, labels, r, address), address, r)
+    answers::told(view.find(address), address, view.rec)
+}
+
+// The header of the object that starts at the address, which has a payload word of that index.
+#[inline(always)]
+#[tactic(auto, using(crate::proofs::Laws::found_within), unfolding(rules::specs::Calls::refused, rules::specs::Calls::inside))]
+fn header_at(view: &View<'_>, address: u32, index: u32) -> Result<u32, Refusal>
+    ensures goes_on { (go : ℕ → Outcome) → go_on (lent_of view.now) result go ≡ payload_word (lent_of view.now) address index go }
+    ensures inside { IfOk result (λ w. address + 1 + index < length view.now.heap.now) }
+{
+    if !view.is_valid() {
+        return Err(Refusal::Layout);
+    }
+    match view.find(address) {
+        Found::Start(w) => {
+            if header::size_of(w) - 1 <= index as usize {
+                return Err(Refusal::Index);
+            }
+            Ok(w)
+        }
+        Found::Inside(start) => Err(Refusal::Inside(start)),
+        Found::Nothing => Err(Refusal::NothingThere),
+    }
 }
 
 // The payload word of that index, of the object that starts at the address.
-pub fn load(
-    heap: &[u32],
-    labels: &[u16],
-    links: &[u16],
-    r: Record,
-    address: u32,
-    index: u32,
-) -> Answer
-    ensures { outcome result heap.now labels.now links.now ≡ load (lent heap.now labels.now links.now r) address index }
+#[inline]
+#[tactic(auto, unfolding(rules::specs::Calls::load, rules::specs::Calls::accepted, rules::specs::Calls::refused))]
+pub fn load(view: &View<'_>, address: u32, index: u32) -> Result<Accepted, Refusal>
+    ensures { outcome (answer view.now.rec result) view.now.heap.now view.now.labels.now view.now.links.now ≡ load (lent_of view.now) address index }
 {
-    if !record::is_valid(heap, labels, links, r) {
-        return answers::refused(1, r);
-    }
-    let found = walk::find(heap, labels, r, address);
-    let Found::Start(w) = found else {
-        return answers::told(found, address, r);
-    };
-    if header::size_of(w) - 1 <= index as usize {
-        return answers::refused(5, r);
-    }
+    header_at(view, address, index)?;
     let at = address as usize + 1 + index as usize;
-    answers::accepted(heap[at], r)
+    Ok(Accepted {
+        value: view.heap[at],
+        rec: view.rec,
+    })
 }
 
 // The value may be stored as payload word `index` of an object with this header: a reference is checked.
-fn may_store(heap: &[u32], labels: &[u16], r: Record, w: u32, index: u32, value: u32) -> bool
-    ensures { (links : List ℕ) → result ≡ may_store (lent heap.now labels.now links r) w index value }
+#[inline]
+#[tactic(auto, unfolding(rules::specs::Calls::may_store))]
+fn may_store(view: &View<'_>, w: u32, index: u32, value: u32) -> bool
+    ensures { result ≡ may_store (lent_of view.now) w index value }
 {
-    if header::refs_of(w) <= index as usize {
-        return true;
-    }
-    walk::is_reference(heap, labels, r, value)
+    header::refs_of(w) <= index as usize || view.is_reference(value)
 }
 
 // That payload word becomes the value.
+#[inline]
+#[tactic(auto, unfolding(rules::specs::Calls::store, rules::specs::Calls::accepted, rules::specs::Calls::refused))]
 pub fn store(
     heap: &mut [u32],
     labels: &[u16],
@@ -65,23 +83,20 @@ pub fn store(
     address: u32,
     index: u32,
     value: u32,
-) -> Answer
-    ensures { outcome result heap.new labels.now links.now ≡ store (lent heap.old labels.now links.now r) address index value }
+) -> Result<Accepted, Refusal>
+    ensures { outcome (answer r result) heap.new labels.now links.now ≡ store (lent heap.old labels.now links.now r) address index value }
 {
-    if !record::is_valid(heap, labels, links, r) {
-        return answers::refused(1, r);
-    }
-    let found = walk::find(heap, labels, r, address);
-    let Found::Start(w) = found else {
-        return answers::told(found, address, r);
+    let view = View {
+        heap,
+        labels,
+        links,
+        rec: r,
     };
-    if header::size_of(w) - 1 <= index as usize {
-        return answers::refused(5, r);
-    }
-    if !may_store(heap, labels, r, w, index, value) {
-        return answers::refused(6, r);
+    let w = header_at(&view, address, index)?;
+    if !may_store(&view, w, index, value) {
+        return Err(Refusal::BadReference);
     }
     let at = address as usize + 1 + index as usize;
     heap[at] = value;
-    answers::accepted(0, r)
+    Ok(Accepted { value: 0, rec: r })
 }

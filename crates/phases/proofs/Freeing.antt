@@ -1,38 +1,28 @@
--- Laws of freeing: zeros word by word, then page by page what is done and what is left gives.
+-- Laws of freeing: the zeros of a page, then page by page what is done and what is left gives.
 use mathlib.Core.Path.{◌≡◌, refl, sym, ap, ◌∙◌}
 use mathlib.Core.Bool.{Bool, true, false, cond}
 use mathlib.Core.List.{List, [], ◌∷◌, ◌++◌, append-nil, append_assoc}
-use Prim.Native.Nat.{ℕ, suc, zero-le, ◌+◌, ◌-◌, ◌*◌, ◌≤◌, ◌<◌}
-use native.Mathlib.Nat.{add-zero, sub-zero, suc-mul, mul-le-mul_right}
+use Prim.Native.Nat.{ℕ, suc, ◌+◌, ◌-◌, ◌*◌, ◌≤◌, ◌<◌}
+use native.Mathlib.Nat.{suc-mul, mul-le-mul_right}
 use native.Mathlib.Omega.{arith}
 use native.Mathlib.Numerals.{add-one}
-use lib.ListN.{length, set, take, drop, replicate, drop_of_length-le, length-append, length-take, length-replicate}
+use lib.ListN.{length, set, take, drop, replicate, drop_of_length-le, length-append, length-take, length-drop, length-replicate}
 use lib.Seq.{sets, sets-eq, drop-cons, take-suc, take-suc-set, take_all, drop-set-lt, take-add, drop-drop, take_at, drop_at}
 use lib.Dec.{eqb}
 use borrow.Author.Tests.{eqb-true, eqb-false, eq-eqb, ne_eqb}
+use borrow.Rule.Slice.PartMut.{mid_of, put_mid}
 use Rattle.rules.specs.Ranges.{at}
 use Rattle.rules.specs.Collection.{freed_heap, freed_labels}
 use Rattle.laws.specs.Pages.{page_end}
 
--- ---- n zeros from a on, of which i are written
-
-pub record Zeroing (a n : ℕ) (goal h : List ℕ) (i : ℕ) : Type 0 where
-  pub within : i ≤ n
-  pub same : sets h (a + i) (replicate (n - i) 0) ≡ goal
-
-module _ (a n : ℕ) where
-  pub zeroing_begin : (h : List ℕ) → Zeroing a n (sets h a (replicate n 0)) h 0
-  zeroing_begin h = record { within = zero-le; same = simp (add-zero, sub-zero) }
-
-  module _ (goal h : List ℕ) (i : ℕ) (Z : Zeroing a n goal h i) where
-    pub zeroing_turn : i < n → Zeroing a n goal (set h (a + i) 0) (i + 1)
-    zeroing_turn p =
-        let e : n - i ≡ suc (n - (i + 1)) = omega arith in
-        let f : a + (i + 1) ≡ suc (a + i) = omega arith in
-        record { within = omega arith; same = rw f (rw e at Z.same) }
-
-    pub zeroing_end : n ≤ i → h ≡ goal
-    zeroing_end p = let e : n - i ≡ 0 = omega arith in rw e at Z.same
+-- zeros put in the place of n words
+pub cleared_is : (h part : List ℕ) (a n : ℕ) → a + n ≤ length h → part ≡ replicate (length (mid_of a (a + n - a) h)) 0 → put_mid a (a + n - a) h part ≡ sets h a (replicate n 0)
+cleared_is h part a n fits e =
+    let m : a + n - a ≡ n = omega arith in
+    let many : length (mid_of a n h) ≡ n = simp (length-take, length-drop) (omega arith) in
+    let part_is : part ≡ replicate n 0 = e ∙ rw (m, many) in
+    let zeros : length {A = ℕ} (replicate n 0) ≡ n = length-replicate n 0 in
+    rw (m, part_is, drop-drop n a h) (sym (rw (zeros, append_assoc) at (sets-eq (replicate n 0) h a (rw zeros fits))))
 
 -- ---- the pages: those below g are done
 

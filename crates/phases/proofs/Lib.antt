@@ -1,3 +1,3 @@
-pub mod Sweeping
 pub mod Freeing
 pub mod Running
+pub mod Sweeping

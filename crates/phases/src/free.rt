@@ -6,25 +6,6 @@ ghost use Rattle.rules.specs.Collection.{freed_heap, freed_labels};
 
 use hints::Shape;
 
-// n zeros from address a on.
-pub fn zero_words(heap: &mut [u32], a: usize, n: usize)
-    requires { a + n ≤ length heap.old }
-    ensures { heap.new ≡ sets heap.old a (replicate n 0) }
-{
-    let mut i = 0;
-    while i < n {
-        heap[a + i] = 0;
-        i += 1;
-    }
-}
-
-// A label as wide as in a record.
-fn label_of(label: u16) -> u32
-    ensures { result ≡ label }
-{
-    label as u32
-}
-
 // One page.
 pub fn free_page(heap: &mut [u32], labels: &mut [u16], k: Shape, g: usize)
     requires heap_len { (length heap.old ≡ k.pages * k.page) × (length labels.old ≡ k.pages) }
@@ -32,12 +13,12 @@ pub fn free_page(heap: &mut [u32], labels: &mut [u16], k: Shape, g: usize)
     ensures heap_after { heap.new ≡ cond (eqb (at labels.old g) k.old) (sets heap.old (g * k.page) (replicate k.page 0)) heap.old }
     ensures labels_after { labels.new ≡ cond (eqb (at labels.old g) k.old) (set labels.old g 0) labels.old }
 {
-    if label_of(labels[g]) != k.old {
-        return;
+    if u32::from(labels[g]) == k.old {
+        let page = k.page as usize;
+        let base = g * page;
+        heap[base..base + page].fill(0);
+        labels[g] = 0;
     }
-    let page = k.page as usize;
-    zero_words(heap, g * page, page);
-    labels[g] = 0;
 }
 
 // Every page.
@@ -46,9 +27,7 @@ pub fn free_pages(heap: &mut [u32], labels: &mut [u16], k: Shape)
     ensures heap_after { heap.new ≡ freed_heap k.page k.old labels.old heap.old }
     ensures labels_after { labels.new ≡ freed_labels k.old labels.old }
 {
-    let mut g: usize = 0;
-    while g < k.pages as usize {
+    for g in 0..labels.len() {
         free_page(heap, labels, k, g);
-        g += 1;
     }
 }

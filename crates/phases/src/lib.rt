@@ -8,21 +8,24 @@
 pub mod free;
 pub mod sweep;
 
-ghost use Rattle.std.specs.Prelude.{◌≡◌, ◌+◌, ◌≤◌};
+ghost use Rattle.std.specs.Prelude.{◌≡◌, ◌+◌, ◌≤◌, Ok};
 ghost use Rattle.rules.specs.Lent.{lent};
 ghost use Rattle.rules.specs.Collection.{plainly, plan_of, collection};
 ghost use Rattle.rules.specs.Collect.{collect_outcome, accepted_collect};
 ghost use Rattle.laws.specs.Valid.{Layout};
 ghost use Rattle.laws.specs.Safe.{SafeRun};
-ghost use Rattle.phases.specs.Code.{begin_of, shape_of, answer_of};
+ghost use Rattle.copies.specs.Code.{state_of};
+ghost use Rattle.answers.specs.Answers.{collected};
+ghost use Rattle.phases.specs.Code.{shape_of, answer_of, Retained};
 
+use answers::Counts;
 use copies::Gather;
-use hints::Shape;
-use layout::tables;
+use hints::{Queue, Shape};
 use numbers::pages;
-use rules::{Collected, Record};
+use rules::Record;
 
 // What a collection of a heap with this record keeps the same.
+#[tactic(auto, unfolding(rules::specs::Pages::other_label))]
 pub fn shape_of(r: Record) -> Shape
     ensures { result ≡ shape_of r }
 {
@@ -34,39 +37,62 @@ pub fn shape_of(r: Record) -> Shape
     }
 }
 
-// After the hints, which named `hinted` pages. With no copy page the fill is P, so that nothing fits.
-pub fn begin(r: Record, hinted: u32) -> Gather
-    ensures { result ≡ begin_of r hinted }
+// The answer after the sweep, when there are no fillers yet, where `hinted` pages were hinted. The queue's other
+// pages were taken or kept.
+pub fn answer(r: Record, hinted: u32, g: &Gather) -> Counts
+    requires { hinted + g.now.kept ≤ g.now.queue.now.tail }
+    ensures { result ≡ answer_of r hinted (state_of g.now) }
 {
-    Gather {
-        tail: hinted,
+    let relabelled = r.relabelled(pages::other_label(r.label));
+    let rec = relabelled.opening(g.copy, g.fill);
+    Counts {
+        hinted,
+        taken: g.queue.tail - g.kept - hinted,
+        objects: g.objects,
+        words: g.words,
+        kept: g.kept,
+        fillers: 0,
+        rec,
+    }
+}
+
+// Steps 1 to 3: what the roots reach is retained. The links hold the queue by then: pages hinted, then pages
+// taken, then pages kept.
+fn retain<'a>(
+    heap: &'a mut [u32],
+    labels: &'a mut [u16],
+    links: &'a mut [u16],
+    r: Record,
+    roots: &mut [u32],
+    hints: &[u32],
+) -> Counts
+    requires layout { Layout (lent heap.old labels.old links.old r) r.page r.pages }
+    requires safe_run { SafeRun (plan_of (lent heap.old labels.old links.old r) plainly) (lent heap.old labels.old links.old r) roots.old hints.now }
+    ensures { Retained (lent heap.old labels.old links.old r) roots.old hints.now heap.new labels.new links.new roots.new result }
+{
+    let shape = shape_of(r);
+    let mut queue = Queue {
+        labels,
+        links,
+        shape,
+        tail: 0,
+    };
+    queue.hint_words(hints);
+    let hinted = queue.tail;
+    // With no copy page the fill is P, so that nothing fits.
+    let mut gather = Gather {
+        heap,
+        queue: &mut queue,
         cursor: 1,
         copy: 0,
         fill: r.page,
         kept: 0,
         objects: 0,
         words: 0,
-    }
-}
-
-// The answer after the last step, where `hinted` pages were hinted and there are `fillers` fillers. The queue's
-// other pages were taken or kept.
-pub fn answer(r: Record, hinted: u32, g: Gather, fillers: u32) -> Collected
-    requires { hinted + g.kept ≤ g.tail }
-    ensures { result ≡ answer_of r hinted g fillers }
-{
-    let relabelled = r.relabelled(pages::other_label(r.label));
-    let rec = relabelled.opening(g.copy, g.fill);
-    Collected {
-        refusal: 0,
-        hinted,
-        taken: g.tail - g.kept - hinted,
-        objects: g.objects,
-        words: g.words,
-        kept: g.kept,
-        fillers,
-        rec,
-    }
+    };
+    gather.forward_roots(roots);
+    sweep::sweep_queue(&mut gather);
+    answer(r, hinted, &gather)
 }
 
 // The four steps, on a heap that passed the tests of collect.
@@ -77,18 +103,19 @@ pub fn run(
     r: Record,
     roots: &mut [u32],
     hints: &[u32],
-) -> Collected
+) -> Counts
     requires layout { Layout (lent heap.old labels.old links.old r) r.page r.pages }
     requires safe_run { SafeRun (plan_of (lent heap.old labels.old links.old r) plainly) (lent heap.old labels.old links.old r) roots.old hints.now }
-    ensures { collect_outcome result heap.new labels.new links.new roots.new ≡ accepted_collect (collection plainly (lent heap.old labels.old links.old r) roots.old hints.now) }
+    ensures { collect_outcome (collected r (Ok result)) heap.new labels.new links.new roots.new ≡ accepted_collect (collection plainly (lent heap.old labels.old links.old r) roots.old hints.now) }
 {
-    let k = shape_of(r);
-    let hinted = hints::hint_words(labels, links, k, hints);
-    let begun = begin(r, hinted);
-    let rooted = copies::forward_roots(heap, labels, links, k, begun, roots);
-    let swept = sweep::sweep_queue(heap, labels, links, k, rooted);
-    let filled = fillers::fill_pages(heap, links, k, swept);
-    free::free_pages(heap, labels, k);
-    tables::clear16(links);
-    answer(r, hinted, swept, filled)
+    let retained = retain(heap, labels, links, r, roots, hints);
+    let first = (retained.hinted + retained.taken) as usize;
+    let kept = &links[first..first + retained.kept as usize];
+    let fillers = fillers::fill_pages(heap, kept, r.page);
+    free::free_pages(heap, labels, shape_of(r));
+    links.fill(0);
+    Counts {
+        fillers,
+        ..retained
+    }
 }

@@ -1,7 +1,7 @@
 -- The contract of the run determines what it answers and every byte that it leaves: two outcomes that both satisfy it are
 -- equal. Assumes nothing.
-use Rattle.std.specs.Prelude.{◌≡◌, List, ◌++◌, ℕ, length, drop}
-use Rattle.std.proofs.Common.{sym, ap, ◌∙◌}
+use Rattle.std.specs.Prelude.{◌≡◌, List, [], ◌++◌, ℕ, zero, suc, length, drop}
+use Rattle.std.proofs.Common.{sym, ap, ◌∙◌, append-nil}
 use Rattle.runs.specs.Run.{transcript}
 
 -- n bytes were answered, and `after` stands where `before` stood
@@ -13,3 +13,11 @@ pub runs_once : {input before : List ℕ} {m n : ℕ} {x y : List ℕ} → Runs 
 runs_once {input} {before} p q =
     let e = p.answer ∙ sym q.answer in
     (e, p.bytes ∙ ap (λ (k : ℕ). transcript input ++ drop k before) e ∙ sym q.bytes)
+
+-- what the run's contract says of a text, whose length is a part of it: it is such a buffer, with nothing behind the answer
+pub text_runs : {input after : List ℕ} → after ≡ transcript input → Runs input [] (length after) after
+text_runs {input} {after} p = record { answer = ap length p; bytes = p ∙ sym (nothing (length after)) }
+  where
+    nothing : (n : ℕ) → transcript input ++ drop n [] ≡ transcript input
+    nothing zero = append-nil (transcript input)
+    nothing (suc n) = append-nil (transcript input)

@@ -1,2 +1,3 @@
 pub mod Run
+pub mod Answer
 pub mod Determined

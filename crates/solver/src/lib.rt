@@ -10,6 +10,7 @@ ghost use Rattle.rules.specs.Lent.{lent};
 ghost use Rattle.rules.specs.Calls.{outcome, start, allocate, look_up, load, store};
 ghost use Rattle.rules.specs.Collect.{collect_outcome, collect};
 
+use layout::lent::View;
 use rules::{Answer, Collected, Record};
 
 // The memory is zeroed for T pages of P words; P 0 means the default. Any record will do.
@@ -24,7 +25,7 @@ pub extern "C" fn fouterpin_start(
 ) -> Answer
     ensures { outcome result heap.new labels.new links.new ≡ start (lent heap.old labels.old links.old r) page pages }
 {
-    heap::start(heap, labels, links, r, page, pages)
+    answers::answer(r, heap::start(heap, labels, links, page, pages))
 }
 
 // A new object of d payload words, the first p of them references. The value is its address.
@@ -39,7 +40,7 @@ pub extern "C" fn fouterpin_allocate(
 ) -> Answer
     ensures { outcome result heap.new labels.new links.new ≡ allocate (lent heap.old labels.old links.old r) d p }
 {
-    heap::allocate(heap, labels, links, r, d, p)
+    answers::answer(r, heap::allocate(heap, labels, links, r, d, p))
 }
 
 // What is there at the address: the value is the start of the object that it is at or, with refusal 10, inside.
@@ -53,7 +54,13 @@ pub extern "C" fn fouterpin_look_up(
 ) -> Answer
     ensures { outcome result heap.now labels.now links.now ≡ look_up (lent heap.now labels.now links.now r) address }
 {
-    objects::look_up(heap, labels, links, r, address)
+    let view = View {
+        heap,
+        labels,
+        links,
+        rec: r,
+    };
+    answers::answer(r, objects::look_up(&view, address))
 }
 
 // The value is that payload word of the object at the address.
@@ -68,7 +75,13 @@ pub extern "C" fn fouterpin_load(
 ) -> Answer
     ensures { outcome result heap.now labels.now links.now ≡ load (lent heap.now labels.now links.now r) address index }
 {
-    objects::load(heap, labels, links, r, address, index)
+    let view = View {
+        heap,
+        labels,
+        links,
+        rec: r,
+    };
+    answers::answer(r, objects::load(&view, address, index))
 }
 
 // That payload word becomes the value.
@@ -84,7 +97,8 @@ pub extern "C" fn fouterpin_store(
 ) -> Answer
     ensures { outcome result heap.new labels.new links.new ≡ store (lent heap.old labels.old links.old r) address index value }
 {
-    objects::store(heap, labels, links, r, address, index, value)
+    let result = objects::store(heap, labels, links, r, address, index, value);
+    answers::answer(r, result)
 }
 
 // A collection: root cells may change, hint words never do.
@@ -99,7 +113,7 @@ pub extern "C" fn fouterpin_collect(
 ) -> Collected
     ensures { collect_outcome result heap.new labels.new links.new roots.new ≡ collect (lent heap.old labels.old links.old r) roots.old hints.now }
 {
-    collector::collect(heap, labels, links, r, roots, hints)
+    answers::collected(r, collector::collect(heap, labels, links, r, roots, hints))
 }
 
 // Which page a word names by itself, 0 for none. Bad P or T gives 0.

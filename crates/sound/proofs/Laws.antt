@@ -1,56 +1,91 @@
--- Laws of soundness as the code of this crate meets it: a page in use. Assumes nothing.
-use mathlib.Core.Path.{◌≡◌, sym, ◌∙◌}
+-- Laws of soundness as the code of this crate meets it: a test of each place, by the part of the heap that holds them; a page in use.
+-- Assumes nothing.
+use mathlib.Core.Path.{◌≡◌, refl, sym, ap, ◌∙◌}
 use mathlib.Core.Logic.{◌≢◌}
-use mathlib.Core.Bool.{Bool, true, false, cond, ◌&&◌, and-false}
-use mathlib.Core.List.{List}
-use Prim.Native.Nat.{ℕ, ◌+◌, ◌*◌, ◌-◌, ◌≤◌, ◌<◌}
-use native.Mathlib.Nat.{mul-le-mul}
+use mathlib.Core.Bool.{Bool, true, false, not, cond, ◌&&◌, and-false}
+use mathlib.Core.List.{List, ◌∷◌}
+use Prim.Native.Nat.{ℕ, zero, suc, ◌+◌, ◌*◌, ◌-◌, ◌≤◌, ◌<◌, min}
 use native.Mathlib.Decide.{dec_lt}
 use native.Mathlib.Omega.{arith}
-use lib.ListN.{length}
+use lib.ListN.{length, take, drop}
 use lib.Dec.{eqb, leb}
 use borrow.Author.Tests.{eq-eqb, ne_eqb, le-leb, lt-leb}
-use Rattle.rules.specs.declared.Record.{Record}
 use Rattle.rules.specs.Tests.{and_is}
-use Rattle.rules.specs.Ranges.{at, each}
-use Rattle.rules.specs.Header.{is_header}
-use Rattle.rules.specs.Lent.{Lent, lent}
-use Rattle.rules.specs.Walk.{behind, starts, stop}
+use Rattle.rules.specs.Ranges.{at, block, each}
+use Rattle.rules.specs.Header.{size_of, refs_of, is_header}
+use Rattle.rules.specs.Lent.{Lent}
+use Rattle.rules.specs.Walk.{behind, starts, stop, is_reference}
 use Rattle.rules.specs.Sound.{is_blank, is_fill_sound, refs_good, is_used_sound}
-use Rattle.laws.specs.Walk.{size, objects, objects_end, objects_step, Onward, onward_on, onward_ends, starts_are, page_steps, steps_some, steps_none, steps_upto}
+use Rattle.std.specs.List.{list_all, range_with_len}
+use Rattle.std.proofs.Common.{drop-cons, add-one, eqb-true}
+use Rattle.std.proofs.lemmas.Bool.{eqb-false}
+use Rattle.std.proofs.Math.ListN.{get_or-eq_default}
+use Rattle.laws.specs.Lists.{block_step, block_each, each_past}
+use Rattle.laws.specs.Headers.{Header, header_says}
+use Rattle.laws.specs.Walk.{size, objects, objects_end, objects_step, Onward, onward_begins, onward_on, onward_ends, starts_are, page_steps, steps_some, steps_none, steps_upto}
 
--- ---- any page's bounds are places: of numbers of 32 bits
+-- ---- a test of each place from a to e - 1
 
-pub place : (g P : ℕ) → g ≤ 4294967295 → P ≤ 4294967295 → g * P ≤ 18446744065119617025
-place g P a b = mul-le-mul a b
+-- by the part of the heap that holds them: past the heap a zero stands, which passes
+pub part_all : (F : ℕ → Bool) (h : List ℕ) (e : ℕ) → F 0 ≡ true → (n a : ℕ) → n ≡ min (length h) e - a → list_all F (take n (drop a h)) ≡ each (λ x. F (at h x)) (block a e)
+unfolding each
+part_all F h e z zero a p = sym (block_each (λ x. F (at h x)) a e (λ x lo hi. ap F (get_or-eq_default h 0 (omega arith)) ∙ z))
+part_all F h e z (suc n) a p =
+    rw (one (omega arith), block_step a e (omega arith)) (ap {B = Bool} (λ b. F (at h a) && b) (part_all F h e z n (a + 1) (omega arith)))
+  where
+    one : a < length h → take (suc n) (drop a h) ≡ at h a ∷ take n (drop (a + 1) h)
+    one l = rw (drop-cons h a 0, add-one)
+
+-- by the numbers themselves
+pub range_all : (F : ℕ → Bool) (lo hi n : ℕ) → n ≡ hi - lo → list_all F (range_with_len lo n) ≡ each F (block lo hi)
+unfolding each
+range_all F lo hi zero p = sym (each_past F lo hi (omega arith))
+range_all F lo hi (suc n) p = rw (block_step lo hi (omega arith)) (ap {B = Bool} (λ b. F lo && b) (range_all F (lo + 1) hi n (omega arith)))
 
 -- ---- a page in use, as the loop over its headers meets it: at address a, from its first word `base` to its end e
 
-pub record Passing (h labels : List ℕ) (r : Record) (base e a : ℕ) : Type 0 where
-  pub way : Onward h base e a
-  pub same : (links : List ℕ) → each (refs_good (lent h labels links r)) (objects h a e) ≡ each (refs_good (lent h labels links r)) (objects h base e)
+pub record Passing (m : Lent) (base e a : ℕ) : Type 0 where
+  pub way : Onward m.heap base e a
+  pub same : each (refs_good m) (objects m.heap a e) ≡ each (refs_good m) (objects m.heap base e)
 
-module _ (h labels : List ℕ) (r : Record) (base e a : ℕ) (W : Passing h labels r base e a) where
+pub passing_begins : (m : Lent) (base e : ℕ) → Passing m base e base
+passing_begins m base e = record { way = onward_begins _ _ _; same = refl }
+
+module _ (m : Lent) (base e a : ℕ) (W : Passing m base e a) (w : ℕ) (ew : w ≡ at m.heap a) where
   -- no header stands here: this is the stop, and every reference was good
-  pub passing_ends : is_header (at h a) (e - a) ≡ false
-      → (a ≡ behind h base (objects h base e)) × ((links : List ℕ) → each (refs_good (lent h labels links r)) (objects h base e) ≡ true)
+  pub passing_ends : is_header w (e - a) ≡ false → (a ≡ behind m.heap base (objects m.heap base e)) × (each (refs_good m) (objects m.heap base e) ≡ true)
   unfolding each
-  passing_ends q = (onward_ends h base e a W.way q, λ links. sym (rw (objects_end h a e q) at (W.same links)))
+  passing_ends q =
+      let off : is_header (at m.heap a) (e - a) ≡ false = rw ew at q in
+      (onward_ends m.heap base e a W.way off, sym (rw (objects_end m.heap a e off) at W.same))
 
-  pub passing_bad : is_header (at h a) (e - a) ≡ true → (links : List ℕ) → refs_good (lent h labels links r) a ≡ false → each (refs_good (lent h labels links r)) (objects h base e) ≡ false
-  unfolding each
-  passing_bad q links b = sym (W.same links) ∙ rw (objects_step h a e q, b)
+  -- a header stands here, and b tells of its p references
+  module _ (q : is_header w (e - a) ≡ true) (p : ℕ) (ep : p ≡ refs_of w) (b : Bool) (eb : b ≡ each (λ x. is_reference m (at m.heap x)) (block (a + 1) (a + 1 + p))) where
+    on : is_header (at m.heap a) (e - a) ≡ true
+    on = rw ew at q
 
-  pub passing_on : is_header (at h a) (e - a) ≡ true → ((links : List ℕ) → refs_good (lent h labels links r) a ≡ true) → (n : ℕ) → n ≡ size h a → Passing h labels r base e (a + n)
-  unfolding each
-  passing_on q b n en =
-      rw en (record {
-        way = onward_on h base e a W.way q;
-        same = λ links. more (refs_good (lent h labels links r)) (objects h (a + size h a) e) (b links) ∙ (rw (objects_step h a e q) at (W.same links));
-      })
-    where
-      more : (F : ℕ → Bool) (xs : List ℕ) → F a ≡ true → each F xs ≡ (F a && each F xs)
-      more F xs p = rw p
+    good : refs_good m a ≡ b
+    unfolding refs_good
+    good = sym (rw (ep, ew) at eb)
+
+    pub passing_bad : b ≡ false → each (refs_good m) (objects m.heap base e) ≡ false
+    unfolding each
+    passing_bad f = sym W.same ∙ rw (objects_step m.heap a e on, good, f)
+
+    pub passing_on : b ≡ true → (n : ℕ) → n ≡ size_of w → (0 < n) × (n ≤ e - a) × Passing m base e (a + n)
+    unfolding each
+    passing_on t n en =
+        let H : Header w (e - a) = header_says _ _ q in (
+          omega (arith, H.shape),
+          omega (arith, H.fits),
+          rw (en, ew) (record {
+            way = onward_on m.heap base e a W.way on;
+            same = more (refs_good m) (objects m.heap (a + size m.heap a) e) (good ∙ t) ∙ (rw (objects_step m.heap a e on) at W.same);
+          }),
+        )
+      where
+        more : (F : ℕ → Bool) (xs : List ℕ) → F a ≡ true → each F xs ≡ (F a && each F xs)
+        more F xs p = rw p
 
 -- the test of a page in use, by what the loop found: its first word `base`, its end e
 module _ (m : Lent) (g base e : ℕ) (is_base : base ≡ g * m.rec.page) (is-end : e ≡ g * m.rec.page + m.rec.page) where
@@ -69,7 +104,7 @@ module _ (m : Lent) (g base e : ℕ) (is_base : base ≡ g * m.rec.page) (is-end
   unfolding is_used_sound
   used_bad q = rw (starts_here, q) (simp and-false)
 
-  pub used_none : behind m.heap base (objects m.heap base e) ≡ base → is_used_sound m g ≡ false
+  used_none : behind m.heap base (objects m.heap base e) ≡ base → is_used_sound m g ≡ false
   unfolding is_used_sound
   used_none q = rw none (and-false (eqb (at m.labels g) m.rec.label))
     where
@@ -80,14 +115,36 @@ module _ (m : Lent) (g base e : ℕ) (is_base : base ≡ g * m.rec.page) (is-end
           few (yes p) = p
           few (no p) = absurd (let z = steps_none (page_steps m g) (omega arith) in omega (arith, stop_here))
 
-  pub used_is : at m.labels g ≡ m.rec.label → each (refs_good m) (objects m.heap base e) ≡ true
-      → (z : ℕ) → z ≡ behind m.heap base (objects m.heap base e) → z ≢ base → (b : Bool) → b ≡ cond (eqb g m.rec.opened) (eqb z (base + m.rec.fill)) true
-      → is_used_sound m g ≡ (b && is_blank m.heap z e)
+  used_is : at m.labels g ≡ m.rec.label → each (refs_good m) (objects m.heap base e) ≡ true
+      → (z : ℕ) → z ≡ behind m.heap base (objects m.heap base e) → z ≢ base → is_used_sound m g ≡ (cond (eqb g m.rec.opened) (eqb z (base + m.rec.fill)) true && is_blank m.heap z e)
   unfolding is_used_sound is_fill_sound
-  used_is l q z ez n b eb =
+  used_is l q z ez n =
       let s : z ≡ stop m g = ez ∙ sym stop_here in
       let u = steps_upto (page_steps m g) in
       let k : each (refs_good m) (starts m g) ≡ true = rw starts_here q in
       and_is (eq-eqb _ _ l)
       (and_is (le-leb 1 (length (starts m g)) (steps_some (page_steps m g) (omega (arith, u.0))))
-      (and_is k (rw (eb, s, is-end, is_base))))
+      (and_is k (rw (s, is-end, is_base))))
+
+  -- it stops past its first word, and on the open page at fill
+  abbrev pub ends : ℕ → Bool
+  ends z = not (eqb z base) && cond (eqb g m.rec.opened) (eqb z (base + m.rec.fill)) true
+
+  -- by the tests of the code
+  module _ (z : ℕ) where
+    pub ends_first : z ≡ base → ends z ≡ not (eqb z base)
+    ends_first p = rw (eq-eqb z base p)
+
+    pub ends_open : z ≢ base → g ≡ m.rec.opened → ends z ≡ eqb z (base + m.rec.fill)
+    ends_open n p = rw (ne_eqb z base n, eq-eqb g m.rec.opened p)
+
+    pub ends_other : z ≢ base → g ≢ m.rec.opened → ends z ≡ not (eqb g m.rec.opened)
+    ends_other n k = rw (ne_eqb z base n, ne_eqb g m.rec.opened k)
+
+  pub used_end : at m.labels g ≡ m.rec.label → (z : ℕ) → (z ≡ behind m.heap base (objects m.heap base e)) × (each (refs_good m) (objects m.heap base e) ≡ true)
+      → (v : Bool) → v ≡ ends z → is_used_sound m g ≡ (v && is_blank m.heap z e)
+  used_end l z (ez, q) v ev = rw ev (go (eqb z base) refl)
+    where
+      go : (b : Bool) → eqb z base ≡ b → is_used_sound m g ≡ ((not b && cond (eqb g m.rec.opened) (eqb z (base + m.rec.fill)) true) && is_blank m.heap z e)
+      go true t = used_none (sym ez ∙ eqb-true _ _ t)
+      go false t = used_is l q z ez (eqb-false _ _ t)

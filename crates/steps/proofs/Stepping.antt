@@ -1,29 +1,33 @@
--- Laws of one step: what a call's outcome makes of the session, a start's two refusals, and a part of a buffer that comes back.
--- Assumes nothing.
-use Rattle.std.proofs.Common.{◌≡◌, ℕ, ◌*◌, ◌<◌, ◌≤◌, Bool, true, false, eqb, ◌≢◌, List, [], ◌∷◌, ◌++◌, length, take, drop, set, sym, refl, ap, ◌∙◌, mul-le-mul_left, arith, length-take-le, take_at, eq-eqb, ne_eqb, le-leb}
+-- Laws of one step: what a call's outcome makes of the session, and a start. Assumes nothing.
+use Rattle.std.proofs.Common.{◌≡◌, Bool, cond, Option, Some, None, ℕ, ◌*◌, ◌<◌, ◌≤◌, true, false, eqb, ◌≢◌, List, length, set, sym, refl, ap, ◌∙◌, mul-le-mul_left, arith, eq-eqb, ne_eqb, le-leb}
 use lib.ListN.{length-replicate}
 use borrow.Author.Tests.{eqb-false, lt-leb}
-use types.Run.{OneOf, miss}
-use denote.Enum.Declared.{tag_of}
+use Rattle.std.specs.Option.{is_some}
+use Rattle.entries.specs.declared.Step.{Step}
+use Rattle.entries.specs.Entries.{is_allowed}
+use Rattle.steps.specs.declared.play.Begun.{Begun}
+use Rattle.steps.specs.Begun.{session_of}
 use Rattle.rules.specs.declared.Record.{Record}
 use Rattle.rules.specs.Tests.{and_is}
 use Rattle.rules.specs.Pages.{is_shape, page_at_start}
-use Rattle.rules.specs.Ranges.{at}
-use Rattle.rules.specs.declared.Answer.{Answer}
-use Rattle.rules.specs.Lent.{Lent, lent, is_laid_out, is_laid}
+use Rattle.rules.specs.Lent.{Lent, is_laid_out, is_laid, is_valid}
 use Rattle.rules.specs.Calls as calls
-use Rattle.rules.specs.Calls.{Outcome, outcome, start, started, allocate, look_up, load, store}
-use Rattle.rules.specs.Collect.{CollectOutcome, collect}
+use Rattle.rules.specs.Calls.{Outcome, start, started, allocate, look_up, load, store}
+use Rattle.rules.specs.Collect.{CollectOutcome, refusal_of_collect, collect}
+use Rattle.rules.specs.Ranges.{each}
+use Rattle.rules.specs.Walk.{is_reference}
+use Rattle.rules.specs.Sound.{is_sound}
+use Rattle.answers.specs.declared.Refusal.{Refusal}
+use Rattle.answers.specs.declared.Refusal.TheVariants.{Layout, Shape, CollectFirst, NothingThere, Index, BadReference, Unsound, BadEntry, Inside}
+use Rattle.answers.specs.Answers.{number, value}
 use Rattle.laws.specs.Pages.{shape_says}
-use Rattle.kept.specs.Refusals.{by_test, allocate_refused, look_up_refused, load_refused, store_refused, collect_refused}
+use Rattle.kept.specs.Refusals.{by_test, allocate_refused, store_refused, collect_refused}
+use Rattle.laws.specs.Collect.{collect_refusal}
+use Rattle.kept.specs.Store.{look_up_same, load_same}
+use Rattle.rules.specs.Ranges.{at}
 use Rattle.entries.specs.declared.Operand.{Operand}
-use Rattle.entries.specs.declared.Step.{Step}
-use Rattle.entries.specs.declared.Step.TheVariants.{Start, Allocate, Store, Load, Hint, Clear, Collect, LookUp, Bad}
-use Rattle.entries.specs.Entries.{is_allowed}
-use Rattle.steps.specs.Session.{Session, Stepped, cells, holding, refused, accepted, passed, called, blank, placed, operand_of, root_plus, perform, step}
-use Rattle.steps.specs.declared.play.Progress.{Progress}
-use Rattle.steps.specs.Code.{playing, replied, session, stepped, is_start, Buffers, Within}
-use Rattle.entries.specs.contracts.Step.{the_type}
+use Rattle.entries.specs.declared.Step.TheVariants.{Start, Allocate, Store, Load, Collect, LookUp}
+use Rattle.steps.specs.Session.{Session, Stepped, cells, holding, accepted, refused, passed, called, blank, placed, before, operand_of, root_plus, perform, step}
 
 -- ---- a call
 
@@ -41,6 +45,18 @@ passed_is s e v t same = by_test (λ (u : Session). replying e v u ≡ replying 
 -- a refused call left the memory as it was, and the root cells stay too
 called_kept : (s : Session) (o : Outcome) → (o.refusal ≢ 0 → o.lent ≡ s.lent) → answered s o s.roots ≡ called s o s.roots
 called_kept s o same = sym (passed_is s o.refusal o.value (holding s o.lent s.roots) (λ n. ap (λ (m : Lent). holding s m s.roots) (sym (same n))))
+
+-- ---- calls that change no memory
+
+-- an outcome with the memory that it leaves, where that is m
+leaves : (m : Lent) (o : Outcome) → o.lent ≡ m → record { refusal = o.refusal; value = o.value; lent = m } ≡ o
+leaves m o e = rw (sym e)
+
+pub loaded_by : (m : Lent) (a i : ℕ) (o : Outcome) → o ≡ load m a i → record { refusal = o.refusal; value = o.value; lent = m } ≡ load m a i
+loaded_by m a i o e = rw e (leaves m (load m a i) (load_same m a i))
+
+pub looked_up_by : (m : Lent) (a : ℕ) (o : Outcome) → o ≡ look_up m a → record { refusal = o.refusal; value = o.value; lent = m } ≡ look_up m a
+looked_up_by m a o e = rw e (leaves m (look_up m a) (look_up_same m a))
 
 -- ---- each operation that calls, from the outcome of its call
 
@@ -61,16 +77,58 @@ stored s x i operand o e = rw e (called_kept s _ (λ n. (store_refused s.lent (a
 
 pub loaded : (s : Session) (x i : ℕ) (o : Outcome) → o ≡ load s.lent (at s.roots x) i → answered s o s.roots ≡ perform s (Load x i)
 unfolding perform
-loaded s x i o e = rw e (called_kept s _ (λ n. (load_refused s.lent (at s.roots x) i n).lent))
+loaded s x i o e = rw e (called_kept s _ (λ n. load_same s.lent (at s.roots x) i))
 
 pub looked_up : (s : Session) (x v : ℕ) (o : Outcome) → o ≡ look_up s.lent (root_plus s.roots x v) → answered s o s.roots ≡ perform s (LookUp x v)
 unfolding perform
-looked_up s x v o e = rw e (called_kept s _ (λ n. (look_up_refused s.lent (root_plus s.roots x v) n).lent))
+looked_up s x v o e = rw e (called_kept s _ (λ n. look_up_same s.lent (root_plus s.roots x v)))
 
 pub gathers : (s : Session) (o : CollectOutcome) → o ≡ collect s.lent s.roots s.hints
     → replying o.refusal o.words (holding s o.lent o.roots) ≡ perform s Collect
 unfolding perform
 gathers s o e = rw e (sym (passed_is s _ _ _ (λ n. let k = collect_refused s.lent s.roots s.hints n in rw (k.lent, k.roots) refl)))
+
+-- ---- refusals of the code
+
+pub not_0 : (e : Refusal) → number e ≡ 0 → ⊥
+not_0 Layout h = omega arith
+not_0 Shape h = omega arith
+not_0 CollectFirst h = omega arith
+not_0 NothingThere h = omega arith
+not_0 Index h = omega arith
+not_0 BadReference h = omega arith
+not_0 Unsound h = omega arith
+not_0 BadEntry h = omega arith
+not_0 (Inside a) h = omega arith
+
+valueless : (e : Refusal) → number e ≢ 10 → value e ≡ 0
+valueless Layout h = refl
+valueless Shape h = refl
+valueless CollectFirst h = refl
+valueless NothingThere h = refl
+valueless Index h = refl
+valueless BadReference h = refl
+valueless Unsound h = refl
+valueless BadEntry h = refl
+valueless (Inside a) h = absurd (h refl)
+
+-- no collection is refused 10
+not_10 : (m : Lent) (roots : List ℕ) → refusal_of_collect m roots ≢ 10
+unfolding refusal_of_collect
+not_10 m roots = by (is_valid m) (is_sound m) (each (is_reference m) roots)
+  where
+    by : (a b c : Bool) → let e : ℕ = cond a (cond b (cond c 0 6) 7) 1 in e ≢ 10
+    by false b c h = omega arith
+    by true false c h = omega arith
+    by true true false h = omega arith
+    by true true true h = omega arith
+
+-- what a refused collection gives, and the session that it leaves
+pub gathers_not : (s : Session) (o : CollectOutcome) (e : Refusal) → o ≡ collect s.lent s.roots s.hints → o.refusal ≡ number e → o.words ≡ 0
+    → replying (number e) (value e) (holding s o.lent o.roots) ≡ perform s Collect
+gathers_not s o e is number_is words =
+    let n : number e ≢ 10 = λ h. not_10 s.lent s.roots (sym (collect_refusal s.lent s.roots s.hints) ∙ ap (λ (w : CollectOutcome). w.refusal) (sym is) ∙ number_is ∙ h) in
+    rw (valueless e n, ← words, ← number_is) (gathers s o is)
 
 -- ---- a start
 
@@ -93,36 +151,32 @@ shapeless : (m : Lent) (P T : ℕ) → is_shape (page_at_start P) T ≡ false �
 unfolding start is_laid_out
 shapeless m P T h = rw h
 
-pub start_refused_1 : (s : Session) (P T : ℕ) → is_shape (page_at_start P) T ≡ false → refused 1 s ≡ perform s (Start P T)
-unfolding perform calls.refused
-start_refused_1 s P T h = rw (shapeless (blank (page_at_start P) T s.lent.rec) P T h)
+-- `Q` is P as the code has it
+module _ (s : Session) (P T Q : ℕ) (size : Q ≡ page_at_start P) where
+  pub start_refused_1 : is_shape Q T ≡ false → refused 1 s ≡ perform s (Start P T)
+  unfolding perform calls.refused
+  start_refused_1 h = rw (shapeless (blank (page_at_start P) T s.lent.rec) P T (rw size at h))
 
-pub start_refused_9 : (s : Session) (P T : ℕ) → is_shape (page_at_start P) T ≡ true → 8192 < T * page_at_start P → refused 9 s ≡ perform s (Start P T)
-unfolding perform calls.accepted
-start_refused_9 s P T h l =
-    rw (fresh (blank (page_at_start P) T s.lent.rec) P T (blank_laid (page_at_start P) T s.lent.rec h), lt-leb (T * page_at_start P) 8192 l)
+  pub start_refused_9 : is_shape Q T ≡ true → 8192 < T * Q → refused 9 s ≡ perform s (Start P T)
+  unfolding perform calls.accepted
+  start_refused_9 h l =
+      rw (fresh (blank (page_at_start P) T s.lent.rec) P T (blank_laid (page_at_start P) T s.lent.rec (rw size at h)), lt-leb (T * page_at_start P) 8192 (rw size at l))
 
--- `o` is what the call said of memory m
-start_accepted : (s : Session) (P T : ℕ) (m : Lent) (o : Outcome) → o ≡ start m P T → is_shape (page_at_start P) T ≡ true → T * page_at_start P ≤ 8192
-    → length m.heap ≡ T * page_at_start P → length m.labels ≡ T → length m.links ≡ T
-    → accepted 0 (record { begun = true; lent = o.lent; roots = cells; hints = cells }) ≡ perform s (Start P T)
-unfolding perform calls.accepted blank
-start_accepted s P T m o e h l a b c =
-    let Q = page_at_start P in
-    let n = blank Q T s.lent.rec in
-    rw (e, fresh m P T (laid m Q T h a b c), fresh n P T (blank_laid Q T s.lent.rec h), le-leb (T * Q) 8192 l, a, b, c) (simp length-replicate)
+  -- and of memory that has the lengths no start is refused; `o` is what the call said of memory m
+  pub start_goes : (m : Lent) (o : Outcome) → o ≡ start m P T → is_shape Q T ≡ true → length m.heap ≡ T * Q → length m.labels ≡ T → length m.links ≡ T → o.refusal ≡ 0
+  unfolding calls.accepted
+  start_goes m o e h a b c =
+      ap (λ (x : Outcome). x.refusal) (e ∙ fresh m P T (laid m (page_at_start P) T (rw size at h) (a ∙ ap (λ (q : ℕ). T * q) size) b c))
 
--- the tag of a step that is no start
-pub no_start : (t : Step) → OneOf (1 ∷ 2 ∷ 3 ∷ 4 ∷ 5 ∷ 6 ∷ 7 ∷ 8 ∷ []) (tag_of the_type t) → is_start t ≡ false
-no_start (Start P T) k = absurd (miss (1 ∷ 2 ∷ 3 ∷ 4 ∷ 5 ∷ 6 ∷ 7 ∷ 8 ∷ []) 0 tt k)
-no_start (Allocate x d p) k = refl
-no_start (Store x i operand) k = refl
-no_start (Load x i) k = refl
-no_start (Hint x y v) k = refl
-no_start (Clear x) k = refl
-no_start Collect k = refl
-no_start (LookUp x v) k = refl
-no_start Bad k = refl
+  pub start_accepted : (m : Lent) (o : Outcome) → o ≡ start m P T → is_shape Q T ≡ true → T * Q ≤ 8192
+      → length m.heap ≡ T * Q → length m.labels ≡ T → length m.links ≡ T
+      → accepted 0 (record { begun = true; lent = o.lent; roots = cells; hints = cells }) ≡ perform s (Start P T)
+  unfolding perform calls.accepted blank
+  start_accepted m o e h l a b c =
+      let R = page_at_start P in
+      let n = blank R T s.lent.rec in
+      let a' : length m.heap ≡ T * R = a ∙ ap (λ (q : ℕ). T * q) size in
+      rw (e, fresh m P T (laid m R T (rw size at h) a' b c), fresh n P T (blank_laid R T s.lent.rec (rw size at h)), le-leb (T * R) 8192 (rw size at l), a', b, c) (simp length-replicate)
 
 -- pages of 8 words or more that 8,192 words hold
 pub few_pages : (P T : ℕ) → is_shape P T ≡ true → T * P ≤ 8192 → T ≤ 1024
@@ -130,76 +184,20 @@ few_pages P T h l = omega (arith, mul-le-mul_left T (shape_says P T h).page_low)
 
 -- ---- refusal 9, at once or not
 
-pub stops : (s : Session) (t : Step) → is_allowed s.begun t ≡ false → refused 9 s ≡ step s t
-unfolding step
-stops s t h = rw h
+begun_is : (o : Option Begun) → is_some o ≡ (session_of o).begun
+unfolding before
+begun_is None = refl
+begun_is (Some b) = refl
 
-pub goes : (s : Session) (t : Step) → is_allowed s.begun t ≡ true → perform s t ≡ step s t
-unfolding step
-goes s t h = rw h
+-- `allowed` is what the code found out of session s
+module _ (s : Session) (o : Option Begun) (is : session_of o ≡ s) (t : Step) {b allowed : Bool} (b_is : b ≡ is_some o) (found : allowed ≡ is_allowed b t) where
+  known : allowed ≡ is_allowed s.begun t
+  known = rw (← is, ← begun_is o, ← b_is) found
 
--- an operation but a start is allowed only after one
-has_begun : (b : Bool) (t : Step) → is_start t ≡ false → is_allowed b t ≡ true → b ≡ true
-has_begun true t n h = refl
-has_begun false (Start P T) n h = sym n
-has_begun false (Allocate x d p) n h = h
-has_begun false (Store x i operand) n h = h
-has_begun false (Load x i) n h = h
-has_begun false (Hint x y v) n h = h
-has_begun false (Clear x) n h = h
-has_begun false Collect n h = h
-has_begun false (LookUp x v) n h = h
-has_begun false Bad n h = h
+  pub stops : allowed ≡ false → refused 9 s ≡ step s t
+  unfolding step
+  stops h = rw (← known, h)
 
--- so a step on what is lent, after a start, is a step of the session
-goes_on : (b : Bool) (m : Lent) (roots hints : List ℕ) (t : Step) {o : Stepped} → is_start t ≡ false → is_allowed b t ≡ true
-    → o ≡ perform (record { begun = true; lent = m; roots = roots; hints = hints }) t
-    → o ≡ step (record { begun = b; lent = m; roots = roots; hints = hints }) t
-goes_on b m roots hints t n h e =
-    e ∙ ap (λ (x : Bool). perform (record { begun = x; lent = m; roots = roots; hints = hints }) t) (sym (has_begun b t n h))
-    ∙ goes (record { begun = b; lent = m; roots = roots; hints = hints }) t h
-
--- ---- parts of the buffers
-
--- what a call left of the first n elements is the first n of what comes back
-back : (n : ℕ) (l part : List ℕ) → length part ≡ length (take n l) → n ≤ length l → take n (part ++ drop n l) ≡ part
-back n l part e h = take_at part (drop n l) n (e ∙ length-take-le n l h)
-
--- of a call's memory, what it left: as long as what was lent
-pub record Left (h₀ l₀ k₀ h l k : List ℕ) (words pages : ℕ) : Type 0 where
-  pub heap : length h ≡ length (take words h₀)
-  pub labels : length l ≡ length (take pages l₀)
-  pub links : length k ≡ length (take pages k₀)
-
-module _ {heap labels links roots hints : List ℕ} (b : Buffers heap labels links roots hints) (s : Progress) where
-  -- a step that is no start, on the part that is lent
-  pub step_on_part : Within s → (t : Step) → is_start t ≡ false → is_allowed s.begun t ≡ true
-      → (a : Answer) (h l k r w : List ℕ) → Left heap labels links h l k s.words s.pages
-      → replied a h l k r w ≡ perform (playing (take s.words heap) (take s.pages labels) (take s.pages links) roots hints s.rec) t
-      → stepped (record { refusal = a.refusal; value = a.value; progress = record { begun = true; words = s.words; pages = s.pages; rec = a.rec } })
-      (h ++ drop s.words heap) (l ++ drop s.pages labels) (k ++ drop s.pages links) r w
-      ≡ step (session heap labels links roots hints s) t
-  step_on_part within t n ok a h l k r w left e =
-      rw (
-        back s.words heap h left.heap (omega (arith, within.words, b.heap)),
-        back s.pages labels l left.labels (omega (arith, within.pages, b.labels)),
-        back s.pages links k left.links (omega (arith, within.pages, b.links)),
-      ) (goes_on s.begun (lent (take s.words heap) (take s.pages labels) (take s.pages links) s.rec) roots hints t n ok e)
-
-  -- an accepted start, on the part that it asks for; `size` is P as the code has it
-  pub start_on_part : (P T size : ℕ) → size ≡ page_at_start P → is_shape size T ≡ true → T * size ≤ 8192
-      → (a : Answer) (h l k r w : List ℕ) → Left heap labels links h l k (T * size) T → r ≡ cells → w ≡ cells
-      → outcome a h l k ≡ start (lent (take (T * size) heap) (take T labels) (take T links) s.rec) P T
-      → stepped (record { refusal = 0; value = 0; progress = record { begun = true; words = T * size; pages = T; rec = a.rec } })
-      (h ++ drop (T * size) heap) (l ++ drop T labels) (k ++ drop T links) r w
-      ≡ perform (session heap labels links roots hints s) (Start P T)
-  unfolding accepted
-  start_on_part P T size z good fits a h l k r w left er ew e =
-      let few : T ≤ 1024 = few_pages size T good fits in
-      let in_heap : T * size ≤ length heap = omega (arith, b.heap) in
-      let in_labels : T ≤ length labels = omega (arith, b.labels) in
-      let in_links : T ≤ length links = omega (arith, b.links) in
-      let words : T * size ≡ T * page_at_start P = ap (λ (q : ℕ). T * q) z in
-      rw (back (T * size) heap h left.heap in_heap, back T labels l left.labels in_labels, back T links k left.links in_links, er, ew)
-      (start_accepted (session heap labels links roots hints s) P T (lent (take (T * size) heap) (take T labels) (take T links) s.rec) (outcome a h l k) e
-      (rw z at good) (omega arith) (length-take-le (T * size) heap in_heap ∙ words) (length-take-le T labels in_labels) (length-take-le T links in_links))
+  pub goes : allowed ≡ true → perform s t ≡ step s t
+  unfolding step
+  goes h = rw (← known, h)

@@ -1,2 +1,4 @@
 pub mod Session
-pub mod Code
+pub mod Memory
+pub mod Told
+pub mod Begun

@@ -2,5 +2,5 @@
 
 #![tactic(auto)]
 
-mod cells;
+mod memory;
 pub mod play;

@@ -1,27 +1,21 @@
--- `collector::collect` meets its contract. Assumes nothing.
-use mathlib.Core.Path.{◌≡◌, sym, ◌∙◌}
-use Rattle.rules.specs.Lent.{Lent, lent}
-use Rattle.rules.specs.Collect.{refusal_of_collect}
+-- `collector::collect` meets its contract: what passed the tests is safe to collect. Assumes nothing.
+use Rattle.std.proofs.Common.{sym, ◌∙◌}
+use Rattle.std.proofs.lemmas.Result.{err_from_is_err_and}
 use Rattle.laws.specs.Valid.{valid_layout}
-use Rattle.laws.specs.Collect.{ready_says, collect_accepts, collect_refuses}
+use Rattle.rules.specs.Collect.{refused_collect}
+use Rattle.laws.specs.Collect.{ready_says, collect_refuses}
 use Rattle.theory.proofs.Collections.{collect_safe}
+use Rattle.collector.proofs.Laws.{refused_some}
 use Rattle.collector.proofs.collect.Goals as goal
 
-pub returns-then-number-ne0 : goal.returns-then-number-ne0
-returns-then-number-ne0 c =
-    let memory : Lent = lent c.args.heap.now c.args.labels.now c.args.links.now c.args.r in
-    c.refused.ensures _ _ _ _ ∙ rw c.refusal-number.ensures (sym (collect_refuses memory c.args.roots.now c.args.hints.now (λ z. c.if-number-ne0.true (c.refusal-number.ensures ∙ z))))
+pub returns-in_err-test : goal.returns-in_err-test
+unfolding refused_collect
+returns-in_err-test c =
+    let p = err_from_is_err_and c.from_residual.result c.from_residual.ensures.1 in
+    rw (p.1, p.2, c.in_err-test.ensures) (sym (collect_refuses _ _ c.args.hints.now (λ z. refused_some _ (c.in_err-test.ensures ∙ z))))
 
-pub run-requires : goal.run-requires
-run-requires c =
-    let memory : Lent = lent c.args.heap.now c.args.labels.now c.args.links.now c.args.r in
-    let passed : refusal_of_collect memory c.args.roots.now ≡ 0 = sym c.refusal-number.ensures ∙ c.if-number-ne0.false in record {
-      layout = valid_layout memory (ready_says memory _ passed).sound.valid;
-      safe_run = collect_safe memory _ _ passed;
-    }
+pub run-requires-clause-layout : goal.run-requires-clause-layout
+run-requires-clause-layout c = valid_layout _ (ready_says _ _ (sym c.in_ok-test.ensures)).sound.valid
 
-pub returns : goal.returns
-returns c =
-    let memory : Lent = lent c.args.heap.now c.args.labels.now c.args.links.now c.args.r in
-    let passed : refusal_of_collect memory c.args.roots.now ≡ 0 = sym c.refusal-number.ensures ∙ c.if-number-ne0.false in
-    c.run.ensures ∙ sym (collect_accepts memory c.args.roots.now c.args.hints.now passed)
+pub run-requires-clause-safe_run : goal.run-requires-clause-safe_run
+run-requires-clause-safe_run c = collect_safe _ _ _ (sym c.in_ok-test.ensures)

@@ -1,59 +1,25 @@
--- `objects::store` meets its contract: as `load`'s, and one test more. Assumes nothing.
-use mathlib.Core.Path.{◌≡◌, sym, ◌∙◌}
-use mathlib.Core.Bool.{true}
-use Prim.Native.Nat.{◌+◌, ◌≤◌}
-use lib.ListN.{length}
-use native.Mathlib.Omega.{arith}
-use borrow.Author.Tests.{le-ltb, lt-ltb}
-use Rattle.rules.specs.declared.Found.TheVariants.{Start}
-use Rattle.rules.specs.Header.{size_of}
-use Rattle.rules.specs.Lent.{lent, is_valid}
-use Rattle.rules.specs.Walk.{found}
-use Rattle.rules.specs.Calls.{store}
-use Rattle.objects.proofs.Laws.{not_start, found_within}
+-- `objects::store` meets its contract: from the header on it is the definition's. Assumes nothing.
+use Rattle.std.proofs.Common.{sym, ◌∙◌}
+use Rattle.std.proofs.lemmas.Result.{err_from_is_err_and}
+use Rattle.rules.specs.Lent.{lent}
+use Rattle.rules.specs.Calls.{store, accepted, refused}
+use Rattle.objects.specs.Code.{put_word}
 use Rattle.objects.proofs.store.Goals as goal
 
-pub returns-then-not-is_valid : goal.returns-then-not-is_valid
+pub returns-in_err-w : goal.returns-in_err-w
 unfolding store
-returns-then-not-is_valid c = rw (sym c.is_valid.ensures ∙ c.if-not-is_valid.true) (c.refused.ensures _ _ _)
-
-pub returns-in_default : goal.returns-in_default
-unfolding store
-returns-in_default c =
-    let valid : is_valid (lent c.args.heap.now c.args.labels.now c.args.links.now c.args.r) ≡ true = sym c.is_valid.ensures ∙ c.if-not-is_valid.false in
-    rw (valid, ← (c.find-found.ensures c.args.links.now), not_start c.find-found.result c.in_default.not-Start) (c.told.ensures _ _ _)
-
-pub overflow_sub-size_of : goal.overflow_sub-size_of
-overflow_sub-size_of c =
-    let valid : is_valid (lent c.args.heap.now c.args.labels.now c.args.links.now c.args.r) ≡ true = sym c.is_valid.ensures ∙ c.if-not-is_valid.false in
-    let object : found (lent c.args.heap.now c.args.labels.now c.args.links.now c.args.r) c.args.address ≡ Start c.in-Start.w = sym (c.find-found.ensures _) ∙ c.in-Start.is in
-    let within : (1 ≤ size_of c.in-Start.w) × (c.args.address + size_of c.in-Start.w ≤ length c.args.heap.now) = found_within (lent c.args.heap.now c.args.labels.now c.args.links.now c.args.r) c.args.address _ valid object in
-    omega (arith, within, c.size_of.ensures.0)
-
-pub returns-then-size_of-index : goal.returns-then-size_of-index
-unfolding store
-returns-then-size_of-index c =
-    let valid : is_valid (lent c.args.heap.now c.args.labels.now c.args.links.now c.args.r) ≡ true = sym c.is_valid.ensures ∙ c.if-not-is_valid.false in
-    let object : found (lent c.args.heap.now c.args.labels.now c.args.links.now c.args.r) c.args.address ≡ Start c.in-Start.w = sym (c.find-found.ensures _) ∙ c.in-Start.is in
-    rw (valid, object, le-ltb _ _ (rw c.size_of.ensures.0 at c.if-size_of-index.true)) (c.refused-then-size_of-index.ensures _ _ _)
+returns-in_err-w c =
+    let p = err_from_is_err_and c.from_residual.result c.from_residual.ensures.1 in
+    rw (p.1, p.2) (c.in_err-w.ensures.goes_on (put_word (lent c.args.heap.now c.args.labels.now c.args.links.now c.args.r) c.args.address c.args.index c.args.value))
 
 pub returns-then-not-may_store : goal.returns-then-not-may_store
-unfolding store
+unfolding store refused
 returns-then-not-may_store c =
-    let valid : is_valid (lent c.args.heap.now c.args.labels.now c.args.links.now c.args.r) ≡ true = sym c.is_valid.ensures ∙ c.if-not-is_valid.false in
-    let object : found (lent c.args.heap.now c.args.labels.now c.args.links.now c.args.r) c.args.address ≡ Start c.in-Start.w = sym (c.find-found.ensures _) ∙ c.in-Start.is in
-    rw (valid, object, lt-ltb _ _ (rw c.size_of.ensures.0 at c.if-size_of-index.false), sym (c.may_store.ensures c.args.links.now) ∙ c.if-not-may_store.true) (c.refused-then-not-may_store.ensures _ _ _)
-
-pub bounds-heap-at : goal.bounds-heap-at
-bounds-heap-at c =
-    let valid : is_valid (lent c.args.heap.now c.args.labels.now c.args.links.now c.args.r) ≡ true = sym c.is_valid.ensures ∙ c.if-not-is_valid.false in
-    let object : found (lent c.args.heap.now c.args.labels.now c.args.links.now c.args.r) c.args.address ≡ Start c.in-Start.w = sym (c.find-found.ensures _) ∙ c.in-Start.is in
-    let within : (1 ≤ size_of c.in-Start.w) × (c.args.address + size_of c.in-Start.w ≤ length c.args.heap.now) = found_within (lent c.args.heap.now c.args.labels.now c.args.links.now c.args.r) c.args.address _ valid object in
-    omega (arith, within, c.size_of.ensures.0)
+    let h = c.in_ok-w.ensures.goes_on (put_word (lent c.args.heap.now c.args.labels.now c.args.links.now c.args.r) c.args.address c.args.index c.args.value) in
+    rw (sym c.may_store.ensures ∙ c.if-not-may_store.true) at h
 
 pub returns : goal.returns
-unfolding store
+unfolding store accepted
 returns c =
-    let valid : is_valid (lent c.args.heap.now c.args.labels.now c.args.links.now c.args.r) ≡ true = sym c.is_valid.ensures ∙ c.if-not-is_valid.false in
-    let object : found (lent c.args.heap.now c.args.labels.now c.args.links.now c.args.r) c.args.address ≡ Start c.in-Start.w = sym (c.find-found.ensures _) ∙ c.in-Start.is in
-    rw (valid, object, lt-ltb _ _ (rw c.size_of.ensures.0 at c.if-size_of-index.false), sym (c.may_store.ensures c.args.links.now) ∙ c.if-not-may_store.false) (c.accepted.ensures _ _ _)
+    let h = c.in_ok-w.ensures.goes_on (put_word (lent c.args.heap.now c.args.labels.now c.args.links.now c.args.r) c.args.address c.args.index c.args.value) in
+    rw (sym c.may_store.ensures ∙ c.if-not-may_store.false) at h

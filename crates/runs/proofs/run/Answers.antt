@@ -1,33 +1,34 @@
--- `runs::run` meets its contract: its buffers have the lengths that the run asks for, and of the input it lends the first
--- 64,000 bytes. Assumes nothing.
-use mathlib.Core.Path.{refl, sym, ap, ◌∙◌}
-use mathlib.Core.List.{List}
-use Prim.Native.Nat.{ℕ, ◌/◌}
-use native.Mathlib.Omega.{arith}
-use lib.ListN.{length}
-use lib.Seq.{length-take-le}
-use Rattle.steps.specs.Session.{before}
-use Rattle.lines.specs.Lines.{none}
-use Rattle.runs.specs.Run.{run, transcript}
-use Rattle.lines.specs.Put.{put_as}
-use Rattle.runs.proofs.Running.{first_part, at_start, counts}
-use native.Mathlib.Nat.{zero-add}
+-- `runs::run` meets its contract: before each record what is put, with what the definition still gives, is the whole output.
+-- Assumes nothing.
+use Rattle.std.proofs.Common.{◌∙◌, ap, take, arith, lit<}
+use Rattle.std.proofs.lemmas.List.{length-take}
+use Rattle.runs.specs.Run.{transcript}
+use Rattle.runs.proofs.Running.{begins, more, turns, ends, first_part}
 use Rattle.runs.proofs.run.Goals as goal
 
-pub slice_bounds-run_on-end : goal.slice_bounds-run_on-end
-slice_bounds-run_on-end c = sym (length-take-le _ c.args.input.now (omega (arith, c.at_most-n.ensures)))
+pub loop-found-init : goal.loop-found-init
+unfolding transcript
+loop-found-init c =
+    let left = ap (λ e. e.bytes.now) c.into_iter-found-iterator.ensures.into_iter_gives ∙ c.new-found-items.ensures ∙ first_part c.args.input.now c.min-n.result c.min-n.ensures in
+    (tt, tt, rw c.new-session.ensures (begins (take 64000 c.args.input.now) _ _ _ _ left c.default-tally.ensures c.clear.ensures))
 
-pub run_on-requires : goal.run_on-requires
-run_on-requires c = record {
-  input_len_bound = (omega (arith, length-take-le c.at_most-n.result c.args.input.now (omega (arith, c.at_most-n.ensures)), c.at_most-n.ensures), omega (arith, c.well_formed));
-  buffers = record { heap = sym c.words-heap.ensures; labels = sym c.marks-labels.ensures; links = sym c.marks-links.ensures; roots = refl; hints = refl };
-}
+pub push_line-requires : goal.push_line-requires
+push_line-requires c =
+    let now = c.loop-found.invariant.2 in
+    (lit< tt, omega (arith, more now c.in-Some.found c.in-Some.ensures.steps.0, now.near, length-take 64000 c.args.input.now))
+
+pub note-requires : goal.note-requires
+note-requires c =
+    let now = c.loop-found.invariant.2 in
+    record { below = omega (arith, more now c.in-Some.found c.in-Some.ensures.steps.0, length-take 64000 c.args.input.now); adds = now.adds }
+
+pub loop-found-preserved : goal.loop-found-preserved
+loop-found-preserved c =
+    let next = c.in-Some.ensures.steps in
+    (tt, tt, rw next.1 (turns c.loop-found.invariant.2 c.in-Some.found next.0 (rw c.numbers-refusal.ensures c.answer.ensures) c.push_line.ensures.text c.push_line.ensures.near c.note.ensures))
+
+pub push_ending-requires : goal.push_ending-requires
+push_ending-requires c = (lit< tt, omega (arith, c.loop-found.invariant.2.inside, c.loop-found.invariant.2.near, length-take 64000 c.args.input.now))
 
 pub returns : goal.returns
-unfolding transcript before
-returns c =
-    let is = ap (λ (x : List ℕ). run (length x / 8) x 0 before none) (first_part c.args.input.now c.at_most-n.result c.at_most-n.ensures) in
-    let p = put_as {n = 264037} is (omega arith) c.run_on.ensures in record {
-      prefix_len = counts p;
-      value = (p.place ∙ zero-add _, at_start p);
-    }
+returns c = ends c.loop-found.invariant.2 c.in-None.ensures.steps.0 c.push_ending.ensures

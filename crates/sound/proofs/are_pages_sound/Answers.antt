@@ -1,17 +1,13 @@
--- `sound::are_pages_sound` meets its contract, whatever the links hold. The loop's invariant: the test from page `g` on
--- is the test of all. Assumes nothing.
-use mathlib.Core.Path.{refl, sym, ◌∙◌}
-use Rattle.laws.specs.Lists.{each_past, each_no, each_yes}
+-- `sound::are_pages_sound` meets its contract. Assumes nothing.
+use Rattle.std.proofs.Common.{refl, ◌∙◌, ◌-◌, rules, tests}
+use Rattle.std.proofs.lemmas.Iterator.{YieldsList-from_range}
+use Rattle.std.proofs.lemmas.Iterator.Search.{all_from_yields_List}
+use Rattle.rules.specs.Sound.{is_page_sound}
+use Rattle.layout.specs.Code.{lent_of}
+use Rattle.sound.proofs.Laws.{range_all}
 use Rattle.sound.proofs.are_pages_sound.Goals as goal
 
-pub loop-g-init : goal.loop-g-init
-loop-g-init c = λ links. refl
-
-pub returns-then-not-is_page_sound : goal.returns-then-not-is_page_sound
-returns-then-not-is_page_sound c = λ links. sym (each_no _ _ _ c.loop-g-test.true (sym (c.is_page_sound.ensures links) ∙ c.if-not-is_page_sound.true)) ∙ c.loop-g.invariant links
-
-pub loop-g-preserved : goal.loop-g-preserved
-loop-g-preserved c = λ links. sym (each_yes _ _ _ c.loop-g-test.true (sym (c.is_page_sound.ensures links) ∙ c.if-not-is_page_sound.false)) ∙ c.loop-g.invariant links
-
 pub returns : goal.returns
-returns c = λ links. sym (each_past _ _ _ c.loop-g-test.false) ∙ c.loop-g.invariant links
+returns c =
+    all_from_yields_List (is_page_sound (lent_of c.args.view.now)) _ _ _ c.all.ensures.ran (YieldsList-from_range 1 c.args.view.now.rec.pages (c.args.view.now.rec.pages - 1) refl refl) (λ x b q k. search (rules, tests))
+    ∙ range_all (is_page_sound (lent_of c.args.view.now)) 1 c.args.view.now.rec.pages _ refl

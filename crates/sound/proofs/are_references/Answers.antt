@@ -1,20 +1,14 @@
--- `sound::are_references` meets its contract, whatever the links hold. The loop's invariant: the test from `i` on is
--- the test of the whole. Assumes nothing.
-use mathlib.Core.Path.{refl, sym, ◌∙◌}
-use Rattle.rules.specs.Lent.{lent}
-use Rattle.laws.specs.Lists.{past_one, each_no, each_yes}
-use Rattle.laws.specs.Sound.{references_past}
-use native.Mathlib.Omega.{arith}
+-- `sound::are_references` meets its contract. Assumes nothing.
+use Rattle.std.proofs.Common.{refl, ◌∙◌, inl, rules, tests}
+use Rattle.std.proofs.lemmas.Iterator.{YieldsList-from_slice}
+use Rattle.std.proofs.lemmas.Iterator.Search.{all_from_yields_List}
+use Rattle.rules.specs.Walk.{is_reference}
+use Rattle.laws.specs.LookUp.{reference_is}
+use Rattle.layout.specs.Code.{lent_of}
+use Rattle.sound.proofs.Laws.{part_all}
 use Rattle.sound.proofs.are_references.Goals as goal
 
-pub loop-i-init : goal.loop-i-init
-loop-i-init c = λ links. refl
-
-pub returns-then-not-is_reference : goal.returns-then-not-is_reference
-returns-then-not-is_reference c = λ links. sym (each_no _ _ _ (omega arith) (sym (c.is_reference.ensures links) ∙ c.if-not-is_reference.true)) ∙ c.loop-i.invariant links
-
-pub loop-i-preserved : goal.loop-i-preserved
-loop-i-preserved c = λ links. sym (each_yes _ _ _ (omega arith) (sym (c.is_reference.ensures links) ∙ c.if-not-is_reference.false)) ∙ c.loop-i.invariant links
-
 pub returns : goal.returns
-returns c = λ links. sym (references_past (lent c.args.heap.now c.args.labels.now links c.args.r) _ _ (past_one c.smaller-end.ensures.2 c.loop-i-test.false)) ∙ c.loop-i.invariant links
+returns c =
+    all_from_yields_List (is_reference (lent_of c.args.view.now)) _ _ _ c.all.ensures.ran (YieldsList-from_slice c.part.result.now cc) (λ x b q k. search (rules, tests))
+    ∙ rw c.part.ensures (part_all (is_reference (lent_of c.args.view.now)) c.args.view.now.heap.now c.args.e (reference_is _ 0 (inl refl)) _ c.args.a refl)

@@ -1,22 +1,11 @@
--- `layout::tables::lowest_free` meets its contract. The loop's invariant: the lowest free page is the lowest from `g` on.
--- Assumes nothing.
-use mathlib.Core.Path.{sym, ◌∙◌, refl}
-use Rattle.laws.specs.FreePages.{lowest_past, lowest_here, lowest_unlabelled, lowest_step}
-use Rattle.laws.specs.Lists.{past_one}
-use native.Mathlib.Omega.{arith}
+-- `layout::tables::lowest_free` meets its contract. Assumes nothing.
+use Rattle.std.proofs.Common.{rules, tests}
+use Rattle.std.proofs.lemmas.Iterator.{YieldsList-from_slice}
+use Rattle.std.proofs.lemmas.Iterator.Search.{position_from_yields_List}
+use Rattle.layout.proofs.Labels.{is_zero, lowest_part}
 use Rattle.layout.proofs.tables.lowest_free.Goals as goal
 
-pub loop-g-init : goal.loop-g-init
-loop-g-init c = refl
-
-pub returns-then-labels-g-eq0 : goal.returns-then-labels-g-eq0
-returns-then-labels-g-eq0 c = sym (lowest_here _ _ _ (omega arith) c.if-labels-g-eq0.true) ∙ c.loop-g.invariant
-
-pub loop-g-preserved : goal.loop-g-preserved
-loop-g-preserved c = sym (lowest_step _ _ _ (omega arith) c.if-labels-g-eq0.false) ∙ c.loop-g.invariant
-
-pub returns-then-g-top : goal.returns-then-g-top
-returns-then-g-top c = sym (lowest_unlabelled _ _ _ c.if-g-top.true (past_one c.smaller-end.ensures.2 c.loop-g-test.false)) ∙ c.loop-g.invariant
-
-pub returns-else-g-top : goal.returns-else-g-top
-returns-else-g-top c = sym (lowest_past _ _ _ c.if-g-top.false) ∙ c.loop-g.invariant
+pub returns-clause-lowest : goal.returns-clause-lowest
+returns-clause-lowest c =
+    rw c.then_some.ensures (lowest_part c.args.labels.now c.args.hi c.args.lo _ c.part-part.result.now c.position.result c.part-part.ensures
+    (position_from_yields_List is_zero _ _ c.position.result c.position.ensures.ran (YieldsList-from_slice c.part-part.result.now cc) (λ x b q k. search (rules, tests))) c.unwrap_or-before.ensures)

@@ -1,12 +1,7 @@
--- `layout::tables::pages_used` meets its contract. The loop's invariant: `n` and the pages from `g` on are all those in use.
--- Assumes nothing.
-use mathlib.Core.Path.{◌≡◌}
-use Prim.Native.Nat.{◌+◌, ◌-◌, ◌≤◌}
-use Rattle.rules.specs.Pages.{pages_used}
+-- `layout::tables::pages_used` meets its contract. The loop's invariant: as many are in use as were seen. Assumes nothing.
+use Rattle.std.proofs.Common.{◌≡◌, take, not, nat_eq}
+use Rattle.std.specs.List.{count_by}
 use Rattle.layout.proofs.tables.pages_used.Given as goal
 
-abbrev pub invariant-loop-g : goal.invariant-loop-g
-invariant-loop-g l = (l.lo ≤ l.g) × (l.n ≤ l.g - l.lo) × (l.n ≤ l.hi - l.lo) × (l.n + pages_used l.labels l.g l.hi ≡ pages_used l.labels l.lo l.hi)
-
-abbrev pub decreases-loop-g : goal.decreases-loop-g
-decreases-loop-g l = l.hi - l.g
+abbrev pub invariant-loop-label : goal.invariant-loop-label
+invariant-loop-label l = l.used ≡ count_by (λ x. not (nat_eq x 0)) (take l.label-index l.part)

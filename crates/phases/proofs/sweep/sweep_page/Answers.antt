@@ -1,83 +1,47 @@
--- `phases::sweep::sweep_page` meets its contract. The loop's invariant: what the walk from here on gives is what the page gives at first. Assumes nothing.
-use mathlib.Core.Path.{◌≡◌, refl, sym, ap, ◌∙◌}
-use mathlib.Core.Bool.{true, false}
-use Prim.Native.Nat.{ℕ, ◌+◌, ◌-◌}
-use native.Mathlib.Omega.{arith}
-use Rattle.rules.specs.Ranges.{at}
-use Rattle.rules.specs.Header.{is_header}
-use Rattle.laws.specs.Headers.{Header, header_says}
-use Rattle.copies.specs.Code.{state_of}
-use Rattle.fillers.specs.Places.{LeftBy, left_none, left_on, turns_first}
-use Rattle.phases.proofs.Sweeping.{objects_stop, objects_past, objects_safe, objects_turn, objects_left, objects_over, counted, counted_safe}
+-- `phases::sweep::sweep_page`: a turn goes over an object, or over a place that one left.
+use Rattle.std.proofs.Common.{refl, sym, ap, ◌∙◌, arith}
+use Rattle.hints.specs.Code.{plan}
+use Rattle.copies.specs.Code.{memory_begin, memory_then}
+use Rattle.phases.proofs.Sweeping.{objects_begin, objects_stop, objects_past, objects_within, objects_safe, objects_turn, objects_left, objects_over}
 use Rattle.phases.proofs.sweep.sweep_page.Goals as goal
 
 pub loop-x-init : goal.loop-x-init
-loop-x-init c =
-    ((record { f = c.args.k.page; room = c.args.k.page; turns = turns_first c.args.base c.args.k.page; same = refl; safe = c.requires.safe_page }, c.requires.tied), (refl, refl, refl))
+loop-x-init c = (objects_begin _ _ _ _ c.requires.safe_page, memory_begin _)
 
-pub offset_bounds-heap-x : goal.offset_bounds-heap-x
-offset_bounds-heap-x c = omega (arith, c.well_formed)
-
-pub sweep_references-g-requires : goal.sweep_references-g-requires
-sweep_references-g-requires c =
-    let on : is_header (at c.loop-x.heap c.loop-x.x) (c.args.base + c.args.k.page - c.loop-x.x) ≡ true = sym c.is_header.ensures ∙ c.if-is_header.true in
-    let header : Header (at c.loop-x.heap c.loop-x.x) (c.args.base + c.args.k.page - c.loop-x.x) = header_says _ _ on in
-    let H = header in record {
-      stop_in_bounds = omega (arith, H.shape, H.fits, c.refs_of.ensures.0, c.loop-x-test.true, c.loop-x.invariant.1.0, c.requires.page_in_bounds);
-      safe_references = counted_safe _ _ _ _ _ (ap (λ (r : ℕ). c.loop-x.x + 1 + r) c.refs_of.ensures.0) (objects_safe _ _ _ _ _ c.loop-x.invariant.0.0 c.loop-x-test.true on);
-      tied = c.loop-x.invariant.0.1;
+pub sweep_references-requires : goal.sweep_references-requires
+sweep_references-requires c =
+    let on = sym c.is_header.ensures ∙ c.if-is_header.true in
+    let (stop, some, next) = objects_within c.loop-x.invariant.0 c.loop-x-test.true on _ _ refl c.refs_of.ensures.0 in
+    record {
+      stop_in_bounds = omega (arith, stop, c.requires.page_in_bounds, c.loop-x.invariant.1.size);
+      safe_references = objects_safe c.loop-x.invariant.0 c.loop-x-test.true on _ _ refl c.refs_of.ensures.0;
     }
-
-pub overflow_add-x : goal.overflow_add-x
-overflow_add-x c =
-    let on : is_header (at c.loop-x.heap c.loop-x.x) (c.args.base + c.args.k.page - c.loop-x.x) ≡ true = sym c.is_header.ensures ∙ c.if-is_header.true in
-    let header : Header (at c.loop-x.heap c.loop-x.x) (c.args.base + c.args.k.page - c.loop-x.x) = header_says _ _ on in
-    let H = header in omega (arith, H.fits, c.size_of-x.ensures.0, c.loop-x-test.true, c.requires.page_in_bounds, c.well_formed)
 
 pub loop-x-smaller-then-is_header : goal.loop-x-smaller-then-is_header
 loop-x-smaller-then-is_header c =
-    let on : is_header (at c.loop-x.heap c.loop-x.x) (c.args.base + c.args.k.page - c.loop-x.x) ≡ true = sym c.is_header.ensures ∙ c.if-is_header.true in
-    let header : Header (at c.loop-x.heap c.loop-x.x) (c.args.base + c.args.k.page - c.loop-x.x) = header_says _ _ on in
-    let H = header in omega (arith, H.shape, H.fits, c.size_of-x.ensures.0, c.loop-x-test.true)
+    let (stop, some, next) = objects_within c.loop-x.invariant.0 c.loop-x-test.true (sym c.is_header.ensures ∙ c.if-is_header.true) _ _ c.size_of-x.ensures.0 c.refs_of.ensures.0 in
+    omega (arith, some, next)
 
 pub loop-x-preserved-then-is_header : goal.loop-x-preserved-then-is_header
 loop-x-preserved-then-is_header c =
-    let on : is_header (at c.loop-x.heap c.loop-x.x) (c.args.base + c.args.k.page - c.loop-x.x) ≡ true = sym c.is_header.ensures ∙ c.if-is_header.true in (
-      (
-        objects_turn _ _ _ (state_of c.loop-x.heap c.loop-x.labels c.loop-x.links c.loop-x.g) _ c.loop-x.invariant.0.0 c.loop-x-test.true on _ _ (c.sweep_references-g.ensures.result_after ∙ counted _ _ _ _ _ (ap (λ (r : ℕ). c.loop-x.x + 1 + r) c.refs_of.ensures.0)) c.size_of-x.ensures.0,
-        c.sweep_references-g.ensures.tied_2,
-      ),
-      (c.sweep_references-g.auto.heap ∙ c.loop-x.invariant.1.0, c.sweep_references-g.auto.labels ∙ c.loop-x.invariant.1.1, c.sweep_references-g.auto.links ∙ c.loop-x.invariant.1.2),
+    let on = sym c.is_header.ensures ∙ c.if-is_header.true in
+    let same = c.sweep_references.ensures.same_memory in (
+      objects_turn c.loop-x.invariant.0 c.loop-x-test.true on _ _ c.size_of-x.ensures.0 c.refs_of.ensures.0 _ c.sweep_references.ensures.after _ (ap plan same.slices.shape),
+      memory_then c.loop-x.invariant.1 same,
     )
 
-pub left_size-size-requires : goal.left_size-size-requires
-left_size-size-requires c = objects_left _ _ _ _ _ c.loop-x.invariant.0.0 c.loop-x-test.true
+pub left_size-requires : goal.left_size-requires
+left_size-requires c = objects_left c.loop-x.invariant.0 c.loop-x-test.true
 
-pub returns-then-size-eq0 : goal.returns-then-size-eq0
-returns-then-size-eq0 c =
-    let off : is_header (at c.loop-x.heap c.loop-x.x) (c.args.base + c.args.k.page - c.loop-x.x) ≡ false = sym c.is_header.ensures ∙ c.if-is_header.false in record {
-      result_after = objects_stop _ _ _ _ _ c.loop-x.invariant.0.0 off (left_none _ _ _ _ c.left_size-size.ensures (objects_left _ _ _ _ _ c.loop-x.invariant.0.0 c.loop-x-test.true) c.if-size-eq0.true);
-      tied_2 = c.loop-x.invariant.0.1;
-    }
-
-pub overflow_add-x-else-is_header : goal.overflow_add-x-else-is_header
-overflow_add-x-else-is_header c =
-    let left : LeftBy c.loop-x.heap (at c.loop-x.heap c.loop-x.x) (c.args.base + c.args.k.page - c.loop-x.x) c.left_size-size.result = left_on _ _ _ _ c.left_size-size.ensures (objects_left _ _ _ _ _ c.loop-x.invariant.0.0 c.loop-x-test.true) c.if-size-eq0.false in
-    let L = left in omega (arith, L.fits, c.loop-x-test.true, c.requires.page_in_bounds, c.well_formed)
-
-pub loop-x-smaller : goal.loop-x-smaller
-loop-x-smaller c =
-    let left : LeftBy c.loop-x.heap (at c.loop-x.heap c.loop-x.x) (c.args.base + c.args.k.page - c.loop-x.x) c.left_size-size.result = left_on _ _ _ _ c.left_size-size.ensures (objects_left _ _ _ _ _ c.loop-x.invariant.0.0 c.loop-x-test.true) c.if-size-eq0.false in
-    let L = left in omega (arith, L.some, L.fits, c.loop-x-test.true)
+pub returns-in_default-clause-after : goal.returns-in_default-clause-after
+returns-in_default-clause-after c = objects_stop c.loop-x.invariant.0 (sym c.is_header.ensures ∙ c.if-is_header.false) c.in_default.ensures
 
 pub loop-x-preserved : goal.loop-x-preserved
 loop-x-preserved c =
-    let off : is_header (at c.loop-x.heap c.loop-x.x) (c.args.base + c.args.k.page - c.loop-x.x) ≡ false = sym c.is_header.ensures ∙ c.if-is_header.false in
-    let left : LeftBy c.loop-x.heap (at c.loop-x.heap c.loop-x.x) (c.args.base + c.args.k.page - c.loop-x.x) c.left_size-size.result = left_on _ _ _ _ c.left_size-size.ensures (objects_left _ _ _ _ _ c.loop-x.invariant.0.0 c.loop-x-test.true) c.if-size-eq0.false in
-    ((objects_over _ _ _ _ _ c.loop-x.invariant.0.0 c.loop-x-test.true _ off left, c.loop-x.invariant.0.1), c.loop-x.invariant.1)
+    let same = c.loop-x.invariant.1 in (
+      objects_over c.loop-x.invariant.0 c.loop-x-test.true _ (sym c.is_header.ensures ∙ c.if-is_header.false) c.in-Some.ensures,
+      record { heap = same.heap; size = same.size; queue = same.queue; slices = same.slices },
+    )
 
-pub returns : goal.returns
-returns c = record {
-  result_after = objects_past _ _ _ _ _ c.loop-x.invariant.0.0 c.loop-x-test.false;
-  tied_2 = c.loop-x.invariant.0.1;
-}
+pub returns-clause-after : goal.returns-clause-after
+returns-clause-after c = objects_past c.loop-x.invariant.0 c.loop-x-test.false

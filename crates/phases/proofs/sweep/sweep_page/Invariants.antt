@@ -1,16 +1,12 @@
--- `phases::sweep::sweep_page` meets its contract. The loop's invariant: what the walk from here on gives is what the page gives at first. Assumes nothing.
-use mathlib.Core.Path.{◌≡◌}
-use Prim.Native.Nat.{◌+◌, ◌-◌}
-use lib.ListN.{length}
+-- `phases::sweep::sweep_page`: what the walk from here on gives is what the page gives at first.
+use Rattle.std.proofs.Common.{◌-◌}
 use Rattle.rules.specs.Collection.{sweep_page}
-use Rattle.hints.specs.Code.{plan}
-use Rattle.copies.specs.Code.{state_of, Tied}
+use Rattle.copies.specs.Code.{plan_in, state_of, SameMemory}
 use Rattle.phases.proofs.Sweeping.{Objects}
 use Rattle.phases.proofs.sweep.sweep_page.Given as goal
 
 abbrev pub invariant-loop-x : goal.invariant-loop-x
-invariant-loop-x l = (Objects (plan l.k) (l.base + l.k.page) (sweep_page (plan l.k) l.k.page l.base l.k.page (state_of l.initial.heap l.initial.labels l.initial.links l.initial.g)) (state_of l.heap l.labels l.links l.g) l.x × Tied l.k l.labels l.links l.g)
-    × ((length l.heap ≡ length l.initial.heap) × (length l.labels ≡ length l.initial.labels) × (length l.links ≡ length l.initial.links))
+invariant-loop-x l = let K = plan_in l.initial.gather in Objects K l.end (sweep_page K K.page l.base K.page (state_of l.initial.gather)) (plan_in l.gather) (state_of l.gather) l.x × SameMemory l.initial.gather l.gather
 
 abbrev pub decreases-loop-x : goal.decreases-loop-x
 decreases-loop-x l = l.end - l.x
