@@ -8,7 +8,7 @@ use Rattle.answers.specs.declared.Refusal.TheVariants.{Layout, Shape, CollectFir
 use Rattle.answers.specs.declared.Accepted.{Accepted}
 use Rattle.answers.specs.declared.Counts.{Counts}
 
--- the refusal's number in the table of refusals; 8, no room, is not given any more
+-- the refusal's number in the table of refusals; 8 is no number of the table
 abbrev pub number : Refusal → ℕ
 number Layout = 1
 number Shape = 2

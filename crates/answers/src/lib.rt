@@ -1,5 +1,5 @@
-// What a call answers: `Ok` with what it gives, or why it is refused; and either as it crosses to C. Every function here answers
-// every input.
+// What a call answers: `Ok` with what it gives, or why it is refused; and either as it crosses to C. Every function
+// here answers every input.
 
 #![tactic(auto)]
 
@@ -120,7 +120,7 @@ pub fn told(found: Found, address: u32, r: Record) -> Result<Accepted, Refusal>
     }
 }
 
-// A call's answer for C, where the call was given this record.
+// A call's answer for C, which has no `Result`: of a refusal the record that the call was given.
 #[inline]
 pub fn answer(r: Record, given: Result<Accepted, Refusal>) -> Answer
     ensures { result ≡ answer r given }

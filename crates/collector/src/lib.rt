@@ -1,11 +1,10 @@
-// Collect: its tests in the order 1, 7, 6, and then the four steps. Nothing lent is changed before all tests have passed.
+// Collect: its tests in the order 1, 7, 6, and then the four steps. Nothing lent is changed before all tests have
+// passed. Heap, labels and links come one by one, as to the other calls that write.
 
 #![tactic(auto)]
 
 ghost use Rattle.std.specs.Prelude.{◌≡◌};
-ghost use Rattle.rules.specs.Ranges.{each};
 ghost use Rattle.rules.specs.Lent.{lent};
-ghost use Rattle.rules.specs.Walk.{is_reference};
 ghost use Rattle.rules.specs.Collect.{collect_outcome, refusal_of_collect, collect};
 ghost use Rattle.layout.specs.Code.{lent_of};
 ghost use Rattle.answers.specs.Answers.{collected};
@@ -15,16 +14,9 @@ use answers::{Counts, Refusal};
 use layout::lent::View;
 use rules::Record;
 
-// Each root cell is 0 or an object start.
-fn are_references(view: &View<'_>, roots: &[u32]) -> bool
-    ensures { result ≡ each (is_reference (lent_of view.now)) roots.now }
-{
-    roots.iter().all(|root| view.is_reference(*root))
-}
-
-// Whether all tests pass: of lengths and record, of soundness, and of the root cells.
+// The refusal, if a test fails: of lengths and record, of soundness, and that each root cell is 0 or an object start.
 #[tactic(auto, unfolding(rules::specs::Collect::refusal_of_collect))]
-fn test(view: &View<'_>, roots: &[u32]) -> Result<(), Refusal>
+fn refusal_if_any(view: &View<'_>, roots: &[u32]) -> Result<(), Refusal>
     ensures { number_if_any result ≡ refusal_of_collect (lent_of view.now) roots.now }
 {
     if !view.is_valid() {
@@ -33,7 +25,7 @@ fn test(view: &View<'_>, roots: &[u32]) -> Result<(), Refusal>
     if !sound::is_sound(view) {
         return Err(Refusal::Unsound);
     }
-    if !are_references(view, roots) {
+    if !view.are_references(roots) {
         return Err(Refusal::BadReference);
     }
     Ok(())
@@ -57,6 +49,6 @@ pub fn collect(
         links,
         rec: r,
     };
-    test(&view, roots)?;
+    refusal_if_any(&view, roots)?;
     Ok(phases::run(heap, labels, links, r, roots, hints))
 }

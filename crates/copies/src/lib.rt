@@ -114,6 +114,8 @@ impl Gather<'_, '_> {
 
     // One value: 0 gives 0, an object already copied gives its copy, also where its page was kept since, an
     // object on a page with the new label gives itself, and any other object is copied, or its page kept.
+    // Made one function with its callers, it keeps the state in registers.
+    #[inline(always)]
     #[tactic(auto, unfolding(rules::specs::Collection::forward))]
     pub fn forward(&mut self, value: u32) -> u32
         requires safe_forward { SafeForward (plan_in self.old) value (state_of self.old) }

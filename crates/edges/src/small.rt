@@ -1,7 +1,7 @@
-// A heap of a few pages, its tables and its record, and the calls on it as C gets their answers.
-use answers::{Accepted, Refusal};
+// A heap of a few pages, its tables and its record, and the calls on it.
+use answers::{Counts, Refusal};
 use layout::lent::View;
-use rules::{Answer, Collected, Record};
+use rules::Record;
 
 #[derive(Clone, Copy)]
 pub struct Small<const WORDS: usize, const PAGES: usize> {
@@ -47,48 +47,41 @@ impl<const WORDS: usize, const PAGES: usize> Small<WORDS, PAGES> {
         }
     }
 
-    // What the call answers; its record is the one that the next call gets.
-    fn answer(&mut self, given: Result<Accepted, Refusal>) -> Answer {
-        let answer = answers::answer(self.rec, given);
-        self.rec = answer.rec;
-        answer
-    }
-
-    pub fn start(&mut self, page: u32, pages: u32) -> Answer {
-        let result = heap::start(
+    pub fn start(&mut self, page: u32, pages: u32) -> Result<u32, Refusal> {
+        let accepted = heap::start(
             &mut self.heap,
             &mut self.labels,
             &mut self.links,
             page,
             pages,
-        );
-        self.answer(result)
+        )?;
+        self.rec = accepted.rec;
+        Ok(accepted.value)
     }
 
-    pub fn allocate(&mut self, d: u32, p: u32) -> Answer {
-        let result = heap::allocate(
+    pub fn allocate(&mut self, d: u32, p: u32) -> Result<u32, Refusal> {
+        let accepted = heap::allocate(
             &mut self.heap,
             &mut self.labels,
             &self.links,
             self.rec,
             d,
             p,
-        );
-        self.answer(result)
+        )?;
+        self.rec = accepted.rec;
+        Ok(accepted.value)
     }
 
-    pub fn look_up(&mut self, address: u32) -> Answer {
-        let result = objects::look_up(&self.view(), address);
-        self.answer(result)
+    pub fn look_up(&self, address: u32) -> Result<u32, Refusal> {
+        Ok(objects::look_up(&self.view(), address)?.value)
     }
 
-    pub fn load(&mut self, address: u32, index: u32) -> Answer {
-        let result = objects::load(&self.view(), address, index);
-        self.answer(result)
+    pub fn load(&self, address: u32, index: u32) -> Result<u32, Refusal> {
+        Ok(objects::load(&self.view(), address, index)?.value)
     }
 
-    pub fn store(&mut self, address: u32, index: u32, value: u32) -> Answer {
-        let result = objects::store(
+    pub fn store(&mut self, address: u32, index: u32, value: u32) -> Result<u32, Refusal> {
+        let accepted = objects::store(
             &mut self.heap,
             &self.labels,
             &self.links,
@@ -96,21 +89,20 @@ impl<const WORDS: usize, const PAGES: usize> Small<WORDS, PAGES> {
             address,
             index,
             value,
-        );
-        self.answer(result)
+        )?;
+        Ok(accepted.value)
     }
 
-    pub fn collect(&mut self, roots: &mut [u32], hints: &[u32]) -> Collected {
-        let result = collector::collect(
+    pub fn collect(&mut self, roots: &mut [u32], hints: &[u32]) -> Result<Counts, Refusal> {
+        let counts = collector::collect(
             &mut self.heap,
             &mut self.labels,
             &mut self.links,
             self.rec,
             roots,
             hints,
-        );
-        let collected = answers::collected(self.rec, result);
-        self.rec = collected.rec;
-        collected
+        )?;
+        self.rec = counts.rec;
+        Ok(counts)
     }
 }

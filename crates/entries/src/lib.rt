@@ -1,14 +1,17 @@
-// Records of 8 bytes, read one at a time from a lent buffer, and the step that each asks for. They are called entries:
-// `Record` is the control record.
+// Records of 8 bytes, read one after another from lent bytes, and the step that each asks for. They are called
+// entries: `Record` is the control record.
 
 #![tactic(auto)]
 
 ghost use Rattle.std.specs.Prelude.{◌≡◌, length, drop};
 ghost use Rattle.std.specs.List.{list_all};
 ghost use Rattle.std.specs.Iterator.{at_most};
+ghost use Rattle.answers.specs.declared.Refusal.TheVariants.{BadEntry};
 ghost use Rattle.entries.specs.Entries.{entry_at, next_at, decode, is_slot, may_use, is_allowed};
 
-// Operation, x, y and i, a byte each, and v.
+use answers::Refusal;
+
+// Operation, x, y and i, a byte each, and v, as they stand in the bytes: any number may come.
 #[derive(Clone, Copy, Debug, PartialEq, Eq)]
 pub struct Entry {
     pub op: u32,
@@ -22,6 +25,15 @@ pub struct Entry {
 #[derive(Clone, Copy, Debug, PartialEq, Eq)]
 pub struct Partial;
 
+// A session refuses them like an entry that asks for nothing.
+impl From<Partial> for Refusal {
+    ghost from_gives = { λ _ e. e ≡ BadEntry };
+
+    fn from(_partial: Partial) -> Self {
+        Refusal::BadEntry
+    }
+}
+
 // What a store puts: the value of a root cell, or a number.
 #[derive(Clone, Copy, Debug, PartialEq, Eq)]
 pub enum Operand {
@@ -29,7 +41,8 @@ pub enum Operand {
     Number(u32),
 }
 
-// What an entry asks for; slots are named x and y, as in the entry.
+// What an entry asks for; slots are named x and y, as in the entry. `Bad` is a case, and no error of a conversion, as in
+// the definition: the session has an answer for it.
 #[derive(Clone, Copy, Debug, PartialEq, Eq)]
 pub enum Step {
     Start { page: u32, pages: u32 },
@@ -142,7 +155,7 @@ fn are_slots(slots: &[u32]) -> bool
     slots.iter().all(|slot| *slot < 16)
 }
 
-// A start was accepted, and every slot is one.
+// A start was accepted, and every slot is one. The definition has that as a flag.
 #[tactic(auto, using(crate::proofs::Slots::all_slots))]
 fn may_use(begun: bool, slots: &[u32]) -> bool
     ensures { result ≡ may_use begun slots.now }

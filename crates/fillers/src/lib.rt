@@ -28,7 +28,8 @@ pub fn left_size(heap: &[u32], word: u32, room: usize) -> Option<usize>
     Some(header::size_of(heap[copy as usize]))
 }
 
-// The page of `page` words that begins at address `base`, and how many fillers it gets. The walk is the sweep's.
+// The page of `page` words that begins at address `base`, and how many fillers it gets. The walk is the sweep's: each
+// step is as long as the heap says, which is written to meanwhile, so that no range or iterator gives the places.
 fn fill_page(heap: &mut [u32], page: u32, base: usize) -> u32
     requires page_bound { (page ≤ 1024) × (base + page ≤ length heap.old) }
     requires safe_fill { SafeFill page base page heap.old }

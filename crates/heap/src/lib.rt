@@ -1,5 +1,6 @@
-// Start and allocate over lent memory. Each answers every input: its contract is one equation with its definition in `rules`, refusals
-// included. The checks go in the order of the table of refusals.
+// Start and allocate over lent memory. Each answers every input: its contract is one equation with its definition in
+// `rules`, refusals included. The checks go in the order of the table of refusals. Heap, labels and links come one by
+// one, so that the types say which of them a call writes: allocate writes no links.
 
 #![tactic(auto)]
 

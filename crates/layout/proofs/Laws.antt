@@ -1,26 +1,23 @@
 -- Laws of the definitions as the code of this crate meets them: the walk for a look-up, which leaves off as soon as the address is met
 -- or passed. Assumes nothing.
 use mathlib.Core.Path.{◌≡◌, refl, sym, ◌∙◌}
-use mathlib.Core.Logic.{◌⊎◌, ◌≢◌, inl, inr, ⊎_elim}
+use mathlib.Core.Logic.{◌⊎◌, ◌≢◌, inr, ⊎_elim}
 use mathlib.Core.Bool.{true, false, true≢false}
 use mathlib.Core.List.{List, ◌∷◌}
 use Prim.Native.Nat.{ℕ, ◌+◌, ◌*◌, ◌-◌, ◌/◌, ◌≤◌, ◌<◌, min}
 use native.Mathlib.Omega.{arith}
-use Rattle.std.proofs.Math.Nat.{div-zero}
-use Rattle.std.proofs.Math.Decide.{dec_lt}
 use lib.ListN.{length}
 use lib.Dec.{eqb, leb}
 use borrow.Author.Tests.{eq-eqb, ne_eqb, le-leb, lt-leb, lt-ltb, le-ltb}
 use Rattle.rules.specs.declared.Found.TheVariants.{Start, Inside, Nothing}
 use Rattle.rules.specs.Ranges.{at}
 use Rattle.rules.specs.Header.{size_of, is_header}
-use Rattle.rules.specs.Pages.{page_named}
 use Rattle.rules.specs.Lent.{Lent}
 use Rattle.rules.specs.Walk.{landing, found}
 use Rattle.laws.specs.Headers.{header_says, header_is, header_room}
 use Rattle.laws.specs.Walk.{size, objects, objects_end, objects_step, starts_are}
-use Rattle.laws.specs.LookUp.{in_use_is, no_header, look_low, look_high, look_label}
-use Rattle.laws.specs.Pages.{named_low, named_high, named_is, page_on}
+use Rattle.laws.specs.LookUp.{in_use_is, no_header}
+use Rattle.laws.specs.Pages.{page_on}
 
 -- a header's form: that of a header where there is room for it. A word has it if it is a header, and is a header if it has it and there is room
 pub header_form : (w room : ℕ) → is_header w room ≡ true → is_header w (size_of w) ≡ true
@@ -74,40 +71,12 @@ module _ (h : List ℕ) (base e a : ℕ) where
     unfolding landing
     coming_met q l inside left = C.ahead l ∙ rw (objects_step h b e q, eq-eqb a b (⊎_elim (λ n. omega arith) (λ n. absurd (true≢false (sym (header_form _ _ q) ∙ n))) left))
 
--- ---- the page of an address, as a look-up asks for it: the page from 1 to T - 1 that it names, 0 for none
+-- ---- an address on a page in use
 
-module _ (P T a g : ℕ) (e : g ≡ page_named P 1 T a) where
-  pub named_no : g ≡ 0 → (a / P < 1) ⊎ (T ≤ a / P)
-  named_no z = go (dec_lt (a / P) 1) (dec_lt (a / P) T)
-    where
-      go : Dec (a / P < 1) → Dec (a / P < T) → (a / P < 1) ⊎ (T ≤ a / P)
-      go (yes l) d = inl l
-      go (no l) (yes k) = absurd (omega (arith, named_is P 1 T a (omega arith) k))
-      go (no l) (no k) = inr (omega arith)
+pub on_page : (P a : ℕ) → P ≢ 0 → (a / P * P ≤ a) × (a < a / P * P + P)
+on_page P a n = page_on (omega arith) a _ refl
 
-  pub named_on : 1 ≤ g → (a / P ≡ g) × ((g * P ≤ a) × (a < g * P + P))
-  named_on p = go (dec_lt (a / P) 1) (dec_lt (a / P) T)
-    where
-      go : Dec (a / P < 1) → Dec (a / P < T) → (a / P ≡ g) × ((g * P ≤ a) × (a < g * P + P))
-      go (yes l) d = absurd (omega (arith, named_low P 1 T a l))
-      go (no l) (no k) = absurd (omega (arith, named_high P 1 T a (omega arith)))
-      go (no l) (yes k) =
-          let q : a / P ≡ g = omega (arith, named_is P 1 T a (omega arith) k) in
-          (q, page_on (pos (dec_lt 0 P) q) a g q)
-        where
-          pos : Dec (0 < P) → a / P ≡ g → 0 < P
-          pos (yes z) q = z
-          pos (no z) q = absurd (let w : P ≡ 0 = omega arith in omega (arith, rw w at q, div-zero a))
-
-module _ (m : Lent) (a g : ℕ) (e : g ≡ page_named m.rec.page 1 m.rec.pages a) where
-  pub found_on : 1 ≤ g → g < m.rec.pages → at m.labels g ≡ m.rec.label → found m a ≡ landing m.heap a (objects m.heap (g * m.rec.page) (g * m.rec.page + m.rec.page))
-  unfolding found
-  found_on low high l =
-      let q : a / m.rec.page ≡ g = (named_on m.rec.page m.rec.pages a g e low).0 in
-      rw (q, in_use_is m g (record { low = low; high = high; label = l }), starts_are m g)
-
-  pub found_off : 1 ≤ g → at m.labels g ≢ m.rec.label → found m a ≡ Nothing
-  found_off low n = look_label m a (rw (named_on m.rec.page m.rec.pages a g e low).0 n)
-
-  pub found_no : g ≡ 0 → found m a ≡ Nothing
-  found_no z = ⊎_elim (look_low m a) (look_high m a) (named_no m.rec.page m.rec.pages a g e z)
+pub found_on : (m : Lent) (a : ℕ) → 1 ≤ a / m.rec.page → a / m.rec.page < m.rec.pages → at m.labels (a / m.rec.page) ≡ m.rec.label
+    → found m a ≡ landing m.heap a (objects m.heap (a / m.rec.page * m.rec.page) (a / m.rec.page * m.rec.page + m.rec.page))
+unfolding found
+found_on m a low high l = rw (in_use_is m (a / m.rec.page) (record { low = low; high = high; label = l }), starts_are m (a / m.rec.page))

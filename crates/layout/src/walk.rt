@@ -1,11 +1,12 @@
 // The walk of a page, and what is found at an address.
 ghost use Rattle.std.specs.Prelude.{◌≡◌, ◌+◌, ◌≤◌, ◌<◌};
+ghost use Rattle.rules.specs.Ranges.{each};
 ghost use Rattle.rules.specs.Walk.{landing, found, is_start, is_reference};
 ghost use Rattle.laws.specs.Walk.{objects};
 ghost use Rattle.layout.specs.Code.{lent_of};
 
 use crate::lent::View;
-use numbers::{header, pages};
+use numbers::header;
 use rules::Found;
 
 // What the walk of the page of `page` words from `base` on finds at an address on it. It leaves off as soon as the
@@ -19,26 +20,30 @@ fn walk(heap: &[u32], base: u32, page: u32, address: u32) -> Found
     let mut at = base as usize;
     let mut last = at;
     let near = a.min(heap.len());
-    while at < near {
+    // Each step is as long as the header there says, so that no range gives the places.
+    let left = loop {
+        if near <= at {
+            break at;
+        }
         let w = heap[at];
         let n = header::size_of(w);
         // Room for it is asked below: only an object that goes past the address may go past the page.
         if !header::is_header(w, n) {
-            break;
+            break at;
         }
         last = at;
         at += n;
-    }
-    if a < at {
-        return if at <= end {
+    };
+    if a < left {
+        return if left <= end {
             Found::Inside(last as u32)
         } else {
             Found::Nothing
         };
     }
     // Where it left off before the address no header stands, and none is found here.
-    match heap.get(at) {
-        Some(&w) if header::is_header(w, end - at) => Found::Start(w),
+    match heap.get(left) {
+        Some(&w) if header::is_header(w, end - left) => Found::Start(w),
         _ => Found::Nothing,
     }
 }
@@ -46,15 +51,27 @@ fn walk(heap: &[u32], base: u32, page: u32, address: u32) -> Found
 impl View<'_> {
     // What is found at an address: an object's start, the inside of an object, or nothing. The links play no part.
     // Every load and store comes here: made one function with its caller, it needs no View in memory.
+    // It divides here, and leaves at each test, where `page_named` would give an option: a page known for one from 1 to
+    // T - 1 needs no test that it has a label.
     #[inline(always)]
     pub fn find(&self, address: u32) -> Found
         ensures { result ≡ found (lent_of self.now) address }
     {
         let r = self.rec;
-        match pages::page_named(r.page, 1, r.pages, address) {
-            Some(g) if self.label_at(g) == r.label => walk(self.heap, g * r.page, r.page, address),
-            _ => Found::Nothing,
+        if r.page == 0 {
+            return Found::Nothing;
         }
+        let g = address / r.page;
+        if g < 1 {
+            return Found::Nothing;
+        }
+        if r.pages <= g {
+            return Found::Nothing;
+        }
+        if self.label_at(g) != r.label {
+            return Found::Nothing;
+        }
+        walk(self.heap, g * r.page, r.page, address)
     }
 
     // An object starts at the address.
@@ -72,5 +89,13 @@ impl View<'_> {
         ensures { result ≡ is_reference (lent_of self.now) value }
     {
         value == 0 || self.is_start(value)
+    }
+
+    // Each of these values may stand for a reference.
+    #[inline(always)]
+    pub fn are_references(&self, values: &[u32]) -> bool
+        ensures { result ≡ each (is_reference (lent_of self.now)) values.now }
+    {
+        values.iter().all(|value| self.is_reference(*value))
     }
 }

@@ -12,7 +12,7 @@ pub struct Tally {
 }
 
 impl Tally {
-    // One record more, accepted where the refusal is 0.
+    // One record more, by the refusal's number as its line tells it, 0 if accepted.
     #[tactic(auto, unfolding(crate::specs::Lines::noted))]
     pub fn note(&mut self, refusal: u32)
         requires { Adds self.old }

@@ -1,4 +1,5 @@
-// Lines in decimal, appended to a text that has room for them.
+// Lines in decimal, appended to a text that has room for them. `push_str` is proved to append where there is room; of
+// `write!` no clause says when it does.
 ghost use Rattle.std.specs.Prelude.{◌≡◌, ◌++◌, ◌+◌, ◌≤◌, length};
 ghost use Rattle.arrayvec.specs.ArrayString.{array_string_len};
 ghost use Rattle.lines.specs.Lines.{number, line, ending};
@@ -34,7 +35,8 @@ pub fn push_line<const CAP: usize>(out: &mut ArrayString<CAP>, a: u32, b: u32, c
 #[tactic(auto, unfolding(crate::specs::Lines::ending))]
 pub fn push_ending<const CAP: usize>(out: &mut ArrayString<CAP>, tally: Tally)
     requires { array_string_len out.old + 37 ≤ CAP }
-    ensures { out.new.bytes ≡ out.old.bytes ++ ending tally }
+    ensures text { out.new.bytes ≡ out.old.bytes ++ ending tally }
+    ensures near { array_string_len out.new ≤ array_string_len out.old + 37 }
 {
     out.push_str("end ");
     push_line(out, tally.records, tally.accepted, tally.refused);

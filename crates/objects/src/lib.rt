@@ -1,5 +1,6 @@
-// Look-up, load and store: the calls with an address. Each answers every input: its contract is one equation with its definition in
-// `rules`, refusals included. The checks go in the order of the table of refusals.
+// Look-up, load and store: the calls with an address. Each answers every input: its contract is one equation with its
+// definition in `rules`, refusals included. The checks go in the order of the table of refusals. Store has heap, labels
+// and links one by one, since it writes the heap alone.
 
 #![tactic(auto)]
 

@@ -1,4 +1,5 @@
-// Step 4: pages still with the old label are zeroed and become free.
+// Step 4: pages still with the old label are zeroed and become free. By then the queue has ended, and the record is not
+// needed, so heap, labels and shape come one by one.
 ghost use Rattle.std.specs.Prelude.{◌≡◌, cond, ◌+◌, ◌*◌, ◌≤◌, ◌<◌, length, set, replicate, eqb};
 ghost use Rattle.std.proofs.lemmas.List.Edits.{sets};
 ghost use Rattle.rules.specs.Ranges.{at};
@@ -21,7 +22,7 @@ pub fn free_page(heap: &mut [u32], labels: &mut [u16], k: Shape, g: usize)
     }
 }
 
-// Every page.
+// Every page, by its number: after `chunks_mut` a proof knows no word of a page.
 pub fn free_pages(heap: &mut [u32], labels: &mut [u16], k: Shape)
     requires { (length heap.old ≡ k.pages * k.page) × (length labels.old ≡ k.pages) }
     ensures heap_after { heap.new ≡ freed_heap k.page k.old labels.old heap.old }

@@ -95,7 +95,8 @@ fn retain<'a>(
     answer(r, hinted, &gather)
 }
 
-// The four steps, on a heap that passed the tests of collect.
+// The four steps, on a heap that passed the tests of collect. Apart from them, both keep more in registers.
+#[inline(never)]
 pub fn run(
     heap: &mut [u32],
     labels: &mut [u16],

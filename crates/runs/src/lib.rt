@@ -2,7 +2,8 @@
 
 #![tactic(auto)]
 
-ghost use Rattle.std.specs.Prelude.{◌≡◌};
+ghost use Rattle.std.specs.Prelude.{◌≡◌, ◌++◌, length, drop};
+ghost use Rattle.io.specs.Counts.{IsPrefixLen};
 ghost use Rattle.steps.specs.Told.{refusal, told, stepped};
 ghost use Rattle.runs.specs.Run.{transcript};
 ghost use Rattle.runs.specs.Answer.{answer};
@@ -19,10 +20,7 @@ use steps::play::Session;
 fn answer(session: &mut Session, found: Result<Entry, Partial>) -> Result<u32, Refusal>
     ensures { stepped result session.new ≡ answer session.old found }
 {
-    match found {
-        Ok(entry) => session.step(Step::from(entry)),
-        Err(Partial) => Err(Refusal::BadEntry),
-    }
+    session.step(Step::from(found?))
 }
 
 // The refusal's number, 0 if accepted, and the value, as a line tells them.
@@ -35,9 +33,9 @@ fn numbers(answer: Result<u32, Refusal>) -> (u32, u32)
     }
 }
 
-// Runs the session of these records, of which it reads 8,000 at most, and writes what it prints over `out`, which has room for
-// any: a line takes at most 33 bytes, and the last one 37.
-pub fn run(input: &[u8], out: &mut ArrayString<264037>)
+// Runs the session of these records, of which it reads 8,000 at most, and writes what it prints over `out`, which has
+// room for any: a line takes at most 33 bytes, and the last one 37.
+pub fn run_text(input: &[u8], out: &mut ArrayString<264037>)
     ensures { out.new.bytes ≡ transcript input.now }
 {
     out.clear();
@@ -50,4 +48,17 @@ pub fn run(input: &[u8], out: &mut ArrayString<264037>)
         tally.note(refusal);
     }
     text::push_ending(out, tally);
+}
+
+// The same at the start of an array, which keeps its bytes behind that. Answers how many bytes it wrote.
+pub fn run(input: &[u8], out: &mut [u8; 264037]) -> usize
+    ensures prefix_len { IsPrefixLen result out.new }
+    ensures value { (result ≡ length (transcript input.now)) × (out.new ≡ transcript input.now ++ drop result out.old) }
+{
+    let mut text = ArrayString::new();
+    run_text(input, &mut text);
+    let bytes = text.as_str().as_bytes();
+    let n = bytes.len();
+    out[..n].copy_from_slice(bytes);
+    n
 }

@@ -11,6 +11,6 @@ fn main(rt: HostRuntime) -> io::Result<()> {
     let mut input = ArrayVec::<u8, 64000>::new();
     io::copy(&mut rt.stdin().take(64000), &mut input)?;
     let mut out = ArrayString::<264037>::new();
-    runs::run(&input, &mut out);
+    runs::run_text(&input, &mut out);
     rt.write_all(out.as_str().as_bytes())
 }

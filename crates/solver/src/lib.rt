@@ -1,5 +1,6 @@
 // The calls for the native solver and anyone else who writes C: include/fouterpin.h. They have no `requires`, since nobody
-// checks a C caller, and each is thin over the proved call of the same name. A slice crosses as a pointer and a count.
+// checks a C caller, and each is thin over the proved call of the same name. A slice crosses as a pointer and a count, each
+// by itself; C has no `Result` and no `Option`, so a refusal is a number, and 0 or the largest number stands for none.
 // This crate is a library, which Rattle programs call; the archive that C links is the crate `solver_c`, over this one.
 
 #![tactic(auto)]
@@ -124,7 +125,8 @@ pub extern "C" fn fouterpin_page_named(word: u32, page: u32, pages: u32) -> u32
     numbers::pages::page_named_checked(word, page, pages)
 }
 
-// Which page the word before names, 0 for none; there is none before word 0. A hint word names this one too, after its own.
+// Which page the word before names, 0 for none; there is none before word 0. A hint word names this one too, after its
+// own.
 #[unsafe(no_mangle)]
 pub extern "C" fn fouterpin_page_named_before(word: u32, page: u32, pages: u32) -> u32
     ensures { result ≡ page_named_before_to_c word page pages }

@@ -27,11 +27,11 @@ use Rattle.laws.specs.Walk.{size, objects, objects_end, objects_step, Onward, on
 -- ---- a test of each place from a to e - 1
 
 -- by the part of the heap that holds them: past the heap a zero stands, which passes
-pub part_all : (F : ℕ → Bool) (h : List ℕ) (e : ℕ) → F 0 ≡ true → (n a : ℕ) → n ≡ min (length h) e - a → list_all F (take n (drop a h)) ≡ each (λ x. F (at h x)) (block a e)
+pub part_each : (F : ℕ → Bool) (h : List ℕ) (e : ℕ) → F 0 ≡ true → (n a : ℕ) → n ≡ min (length h) e - a → each F (take n (drop a h)) ≡ each (λ x. F (at h x)) (block a e)
 unfolding each
-part_all F h e z zero a p = sym (block_each (λ x. F (at h x)) a e (λ x lo hi. ap F (get_or-eq_default h 0 (omega arith)) ∙ z))
-part_all F h e z (suc n) a p =
-    rw (one (omega arith), block_step a e (omega arith)) (ap {B = Bool} (λ b. F (at h a) && b) (part_all F h e z n (a + 1) (omega arith)))
+part_each F h e z zero a p = sym (block_each (λ x. F (at h x)) a e (λ x lo hi. ap F (get_or-eq_default h 0 (omega arith)) ∙ z))
+part_each F h e z (suc n) a p =
+    rw (one (omega arith), block_step a e (omega arith)) (ap {B = Bool} (λ b. F (at h a) && b) (part_each F h e z n (a + 1) (omega arith)))
   where
     one : a < length h → take (suc n) (drop a h) ≡ at h a ∷ take n (drop (a + 1) h)
     one l = rw (drop-cons h a 0, add-one)

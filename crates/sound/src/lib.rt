@@ -12,20 +12,23 @@ ghost use Rattle.layout.specs.Code.{lent_of};
 use layout::lent::{View, part};
 use numbers::header;
 
-// Only zeros from address a up to e. Words past the heap count as zeros.
+// Only zeros from address a up to e. Words past the heap count as zeros. It goes over all words, also where one is none,
+// which in a sound heap is no more to do, and several words at a time are then tested; `all` tests one.
 fn is_blank(heap: &[u32], a: usize, e: usize) -> bool
     ensures { result ≡ is_blank heap.now a e }
 {
-    part(heap, a, e).iter().all(|word| *word == 0)
+    let mut blank = true;
+    for word in part(heap, a, e) {
+        blank &= *word == 0;
+    }
+    blank
 }
 
 // Only references from address a up to e. A zero, as past the heap, is one.
 fn are_references(view: &View<'_>, a: usize, e: usize) -> bool
     ensures { result ≡ each (λ w. is_reference (lent_of view.now) (at view.now.heap.now w)) (block a e) }
 {
-    part(view.heap, a, e)
-        .iter()
-        .all(|word| view.is_reference(*word))
+    view.are_references(part(view.heap, a, e))
 }
 
 // A page with a label that is not 0: it is the current one, the walk meets an object, every reference of an object is
@@ -40,18 +43,21 @@ fn is_used_sound(view: &View<'_>, g: u32) -> bool
     let base = g as usize * r.page as usize;
     let end = base + r.page as usize;
     let mut at = base;
-    loop {
+    // Each step is as long as the header there says, so that no range gives the places.
+    let stop = loop {
         let w = view.word_at(at);
         if !header::is_header(w, end - at) {
-            break;
+            break at;
         }
         let first = at + 1;
         if !are_references(view, first, first + header::refs_of(w)) {
             return false;
         }
         at += header::size_of(w);
-    }
-    at != base && (g != r.opened || at == base + r.fill as usize) && is_blank(view.heap, at, end)
+    };
+    stop != base
+        && (g != r.opened || stop == base + r.fill as usize)
+        && is_blank(view.heap, stop, end)
 }
 
 // A page free and blank, or in use.

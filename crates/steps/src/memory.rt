@@ -1,5 +1,5 @@
-// The memory of a session: of its arrays the part that the last accepted start asked for, and the control record. Each call gets
-// exactly that part.
+// The memory of a session: of its arrays the part that the last accepted start asked for, and the control record. Each
+// call gets exactly that part, cut out anew, since a method can lend two slices at most.
 ghost use Rattle.std.specs.Prelude.{◌≡◌};
 ghost use Rattle.rules.specs.Calls.{allocate, store, load, look_up};
 ghost use Rattle.entries.specs.declared.Step.TheVariants.{Start, Collect};
@@ -13,7 +13,8 @@ use numbers::pages;
 use rules::Record;
 use std::marker::Model;
 
-// 8,192 words, the most that a start may ask for, make at most 1,024 pages of the least size.
+// 8,192 words, the most that a start may ask for, make at most 1,024 pages of the least size. How much is lent stands
+// beside the record, which each call gives anew: that a call leaves P and T as they were need then not be known here.
 #[derive(Drop)]
 pub struct Memory {
     heap: [u32; 8192],

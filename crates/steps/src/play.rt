@@ -11,7 +11,8 @@ use answers::Refusal;
 use entries::{Operand, Step};
 use std::marker::Model;
 
-// A slot past the end is none: no step that is allowed has one, so this only spares a precondition.
+// A slot past the end is none: no step that is allowed has one, so this only spares a precondition. (After a slice's
+// `get_mut` a proof would know the length alone.)
 fn put(cells: &mut [u32], x: u32, v: u32)
     ensures { cells.new ≡ slice_set cells.old x v }
 {
@@ -63,7 +64,7 @@ impl Begun {
         Ok(address)
     }
 
-    // A step that is no start.
+    // A step that is no start. Each case has fields of its own, so it is a match and no table of calls.
     fn perform(&mut self, asked: Step) -> Result<u32, Refusal>
         requires { is_start asked ≡ false }
         ensures { stepped result (begun self.new) ≡ perform (begun self.old) asked }
@@ -87,6 +88,7 @@ impl Begun {
             }
             Step::Collect => self.memory.collect(&mut self.roots, &self.hints),
             Step::LookUp { x, v } => self.memory.look_up(self.root_plus(x, v)),
+            // No start comes here.
             Step::Start { .. } => Err(Refusal::BadEntry),
             Step::Bad => Err(Refusal::BadEntry),
         }
@@ -126,6 +128,7 @@ impl Session {
         if let Step::Start { page, pages } = asked {
             return self.start(page, pages);
         }
+        // What is allowed and no start has a start before it, so this refuses nothing more.
         let Some(begun) = &mut self.begun else {
             return Err(Refusal::BadEntry);
         };

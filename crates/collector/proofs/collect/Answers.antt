@@ -8,14 +8,14 @@ use Rattle.theory.proofs.Collections.{collect_safe}
 use Rattle.collector.proofs.Laws.{refused_some}
 use Rattle.collector.proofs.collect.Goals as goal
 
-pub returns-in_err-test : goal.returns-in_err-test
+pub returns-in_err-refusal_if_any : goal.returns-in_err-refusal_if_any
 unfolding refused_collect
-returns-in_err-test c =
+returns-in_err-refusal_if_any c =
     let p = err_from_is_err_and c.from_residual.result c.from_residual.ensures.1 in
-    rw (p.1, p.2, c.in_err-test.ensures) (sym (collect_refuses _ _ c.args.hints.now (λ z. refused_some _ (c.in_err-test.ensures ∙ z))))
+    rw (p.1, p.2, c.in_err-refusal_if_any.ensures) (sym (collect_refuses _ _ c.args.hints.now (λ z. refused_some _ (c.in_err-refusal_if_any.ensures ∙ z))))
 
 pub run-requires-clause-layout : goal.run-requires-clause-layout
-run-requires-clause-layout c = valid_layout _ (ready_says _ _ (sym c.in_ok-test.ensures)).sound.valid
+run-requires-clause-layout c = valid_layout _ (ready_says _ _ (sym c.in_ok-refusal_if_any.ensures)).sound.valid
 
 pub run-requires-clause-safe_run : goal.run-requires-clause-safe_run
-run-requires-clause-safe_run c = collect_safe _ _ _ (sym c.in_ok-test.ensures)
+run-requires-clause-safe_run c = collect_safe _ _ _ (sym c.in_ok-refusal_if_any.ensures)

@@ -1,21 +1,27 @@
 -- `layout::lent::View::find` meets its contract. Assumes nothing.
-use Rattle.std.proofs.Common.{refl, sym, ◌∙◌, arith}
-use Rattle.layout.proofs.Laws.{named_on, found_on, found_off, found_no}
+use Rattle.std.proofs.Common.{sym, ◌∙◌, arith}
+use Rattle.laws.specs.LookUp.{look_no_page, look_low, look_high, look_label}
+use Rattle.layout.proofs.Laws.{found_on, on_page}
 use Rattle.layout.specs.Code.{lent_of}
 use Rattle.layout.proofs.lent.View.find.Goals as goal
 
+pub returns-then-r-eq0 : goal.returns-then-r-eq0
+returns-then-r-eq0 c = sym (look_no_page (lent_of c.args.self.now) _ c.if-r-eq0.true)
+
+pub returns-then-g-lt1 : goal.returns-then-g-lt1
+returns-then-g-lt1 c = sym (look_low (lent_of c.args.self.now) _ c.if-g-lt1.true)
+
+pub returns-then-r-g : goal.returns-then-r-g
+returns-then-r-g c = sym (look_high (lent_of c.args.self.now) _ c.if-r-g.true)
+
+pub returns-then-label_at-r : goal.returns-then-label_at-r
+returns-then-label_at-r c = sym (look_label (lent_of c.args.self.now) _ (λ e. c.if-label_at-r.true (c.label_at.ensures ∙ e)))
+
 pub overflow_mul-g : goal.overflow_mul-g
-overflow_mul-g c = omega (arith, named_on _ _ _ _ c.in-Some.ensures.named c.in-Some.ensures.in_range.0)
+overflow_mul-g c = omega (arith, on_page c.args.self.now.rec.page c.args.address c.if-r-eq0.false)
 
 pub walk-requires : goal.walk-requires
-walk-requires c = (named_on _ _ _ _ c.in-Some.ensures.named c.in-Some.ensures.in_range.0).1
+walk-requires c = on_page _ _ c.if-r-eq0.false
 
-pub returns-in-Some : goal.returns-in-Some
-returns-in-Some c =
-    c.walk.ensures ∙ sym (found_on (lent_of c.args.self.now) _ _ c.in-Some.ensures.named c.in-Some.ensures.in_range.0 c.in-Some.ensures.in_range.1 (sym c.label_at.ensures ∙ c.if-label_at-r.true))
-
-pub returns-in_default : goal.returns-in_default
-returns-in_default c = sym (found_off (lent_of c.args.self.now) _ _ c.in-Some.ensures.named c.in-Some.ensures.in_range.0 (λ e. c.if-label_at-r.false (c.label_at.ensures ∙ e)))
-
-pub returns-in_default-2 : goal.returns-in_default-2
-returns-in_default-2 c = sym (found_no (lent_of c.args.self.now) _ 0 c.in_default.ensures.named refl)
+pub returns : goal.returns
+returns c = c.walk.ensures ∙ sym (found_on (lent_of c.args.self.now) _ c.if-g-lt1.false c.if-r-g.false (sym c.label_at.ensures ∙ c.if-label_at-r.false))

@@ -1,10 +1,10 @@
--- `runs::run` meets its contract: before each record what is put, with what the definition still gives, is the whole output.
+-- `runs::run_text` meets its contract: before each record what is put, with what the definition still gives, is the whole output.
 -- Assumes nothing.
 use Rattle.std.proofs.Common.{◌∙◌, ap, take, arith, lit<}
 use Rattle.std.proofs.lemmas.List.{length-take}
 use Rattle.runs.specs.Run.{transcript}
 use Rattle.runs.proofs.Running.{begins, more, turns, ends, first_part}
-use Rattle.runs.proofs.run.Goals as goal
+use Rattle.runs.proofs.run_text.Goals as goal
 
 pub loop-found-init : goal.loop-found-init
 unfolding transcript
@@ -31,4 +31,4 @@ pub push_ending-requires : goal.push_ending-requires
 push_ending-requires c = (lit< tt, omega (arith, c.loop-found.invariant.2.inside, c.loop-found.invariant.2.near, length-take 64000 c.args.input.now))
 
 pub returns : goal.returns
-returns c = ends c.loop-found.invariant.2 c.in-None.ensures.steps.0 c.push_ending.ensures
+returns c = ends c.loop-found.invariant.2 c.in-None.ensures.steps.0 c.push_ending.ensures.text

@@ -1,9 +1,9 @@
--- `runs::run` meets its contract: between two records, what is put so far with what the definition still gives is the whole
+-- `runs::run_text` meets its contract: between two records, what is put so far with what the definition still gives is the whole
 -- output. Assumes nothing.
 use Rattle.std.proofs.Common.{take}
 use Rattle.runs.specs.Run.{transcript}
 use Rattle.runs.proofs.Running.{Running}
-use Rattle.runs.proofs.run.Given as goal
+use Rattle.runs.proofs.run_text.Given as goal
 
 abbrev pub invariant-loop-found : goal.invariant-loop-found
 invariant-loop-found l =
