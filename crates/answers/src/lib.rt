@@ -91,8 +91,8 @@ pub struct Accepted {
     pub rec: Record,
 }
 
-// What an accepted collection gives: pages hinted, pages taken, objects copied, words copied, pages kept, fillers, and the
-// record as the collection leaves it.
+// What an accepted collection gives: pages hinted, pages taken, objects copied, words copied, pages kept, fillers,
+// and the record as the collection leaves it.
 #[derive(Clone, Copy)]
 pub struct Counts {
     pub hinted: u32,

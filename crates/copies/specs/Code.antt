@@ -21,7 +21,7 @@ forwarded_of v s = record { value = v; state = s }
 abbrev pub rooted_of : List ℕ → State → Rooted
 rooted_of roots s = record { roots = roots; state = s }
 
--- b holds the memory that a holds, and has its shape
+-- b holds the memory that a holds, and has its shape: said by each method, as `SameSlices`
 pub record SameMemory (a b : Gather) : Type 0 where
   pub heap : b.heap.ghost_name ≡ a.heap.ghost_name
   pub size : length b.heap.now ≡ length a.heap.now

@@ -10,9 +10,9 @@ ghost use Rattle.rules.specs.Pages.{lowest_free};
 use hints::Queue;
 use numbers::header;
 
-// The state of a collection: the lent heap, the pages, and what it counts. No page below the cursor is free;
-// copies go to the page `copy`, 0 before the first, at its fill; the last `kept` pages of the queue were kept
-// for want of room; objects and words were copied.
+// The state of a collection: the lent heap, the pages, and what it counts. No page below the cursor is free; copies
+// go to the page `copy`, at its fill, 0 before the first, as in the definition and in C's record; the last `kept`
+// pages of the queue were kept for want of room; objects and words were copied.
 #[derive(Drop)]
 pub struct Gather<'a, 'q> {
     pub heap: &'a mut [u32],

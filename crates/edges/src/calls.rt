@@ -46,8 +46,8 @@ pub fn allocations(rt: &impl Print) -> io::Result<()> {
     Ok(())
 }
 
-// An object with a reference to itself and a data word that looks like its address, in two root cells. The one hint names
-// no page.
+// An object with a reference to itself and a data word that looks like its address, in two root cells. The one hint
+// names no page.
 pub fn collections(rt: &impl Print) -> io::Result<()> {
     let mut small = Small::<48, 6>::new();
     let _ = small.start(8, 6);
@@ -69,8 +69,8 @@ pub fn collections(rt: &impl Print) -> io::Result<()> {
     )
 }
 
-// Pages 1 and 2 are full, each with a reference to an object on page 3; the one hint is word 16, where the first ends and
-// the second begins.
+// Pages 1 and 2 are full, each with a reference to an object on page 3; the one hint is word 16, where the first ends
+// and the second begins.
 pub fn boundaries(rt: &impl Print) -> io::Result<()> {
     let mut small = Small::<96, 12>::new();
     let _ = small.start(8, 12);

@@ -1,5 +1,6 @@
-// Document 01's edges and those of Q-1 to Q-3 and of Q-5, run on the code: a line for each, what was asked and what it answers.
-// Its stdout is what the papers say. The starred ones are also one table under one theorem (rules/proofs/Edges.antt).
+// Document 01's edges and those of Q-1 to Q-3 and of Q-5, run on the code: a line for each, what was asked and what
+// it answers. Its stdout is what the papers say. The starred ones are also one table under one theorem
+// (rules/proofs/Edges.antt).
 
 #![tactic(auto)]
 

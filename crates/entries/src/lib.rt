@@ -41,8 +41,8 @@ pub enum Operand {
     Number(u32),
 }
 
-// What an entry asks for; slots are named x and y, as in the entry. `Bad` is a case, and no error of a conversion, as in
-// the definition: the session has an answer for it.
+// What an entry asks for; slots are named x and y, as in the entry. `Bad` is a case, and no error of a conversion, as
+// in the definition: the session has an answer for it.
 #[derive(Clone, Copy, Debug, PartialEq, Eq)]
 pub enum Step {
     Start { page: u32, pages: u32 },
@@ -164,8 +164,8 @@ fn may_use(begun: bool, slots: &[u32]) -> bool
 }
 
 impl Step {
-    // Not refused 9 at once: an operation of the table, every slot that it uses below 16, and a start before it, unless it
-    // is one.
+    // Not refused 9 at once: an operation of the table, every slot that it uses below 16, and a start before it,
+    // unless it is one.
     pub fn is_allowed(self, begun: bool) -> bool
         ensures { result ≡ is_allowed begun self }
     {

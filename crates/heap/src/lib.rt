@@ -46,8 +46,8 @@ pub fn start(
     Ok(Accepted { value: 0, rec })
 }
 
-// An object of d payload words, the first p of them references: at fill if it fits the open page, and only otherwise are
-// the labels looked at.
+// An object of d payload words, the first p of them references: at fill if it fits the open page, and only otherwise
+// are the labels looked at.
 #[tactic(auto, using(crate::proofs::Laws::bounds, crate::proofs::Laws::free_page), unfolding(rules::specs::Calls::allocate, rules::specs::Calls::refused, rules::specs::Calls::accepted))]
 pub fn allocate(
     heap: &mut [u32],

@@ -12,7 +12,8 @@ plan k = record { page = k.page; lo = 1; hi = k.pages; old = k.old; new = k.new;
 abbrev pub hinted_of : Queue → Pages
 hinted_of q = record { labels = q.labels.now; queue = take q.tail q.links.now; copy = 0; fill = q.shape.page; kept = 0 }
 
--- b holds the slices that a holds, and has its shape
+-- b holds the slices that a holds, and has its shape. Each method says so, or whoever made the struct would not learn what
+-- became of the slices
 pub record SameSlices (a b : Queue) : Type 0 where
   pub labels : b.labels.ghost_name ≡ a.labels.ghost_name
   pub links : b.links.ghost_name ≡ a.links.ghost_name

@@ -2,11 +2,10 @@
 use Rattle.std.specs.Prelude.{◌≡◌, List, [], ◌∷◌, ◌++◌, ℕ, ◌+◌, ◌≤◌, ◌<◌, length, set, take}
 use Rattle.std.proofs.Common.{arith, add-one, length-take, take-suc-set}
 
--- the queue, n pages long, has its links, as many as there are labels, which are those of a heap
+-- the queue, n pages long, has its links, as many as there are labels
 pub record Queued (labels links : List ℕ) (n : ℕ) : Type 0 where
   pub each : length links ≡ length labels
   pub tail : n ≤ length links
-  pub few : length labels ≤ 4096
 
 pub queue_longer : (links : List ℕ) (t g : ℕ) → t < length links → take (t + 1) (set links t g) ≡ take t links ++ (g ∷ [])
 queue_longer links t g h = rw (add-one t) (take-suc-set links t g h)

@@ -20,7 +20,8 @@ pub struct Shape {
     pub new: u16,
 }
 
-// The pages of a collection: the lent labels, and the queue, which is links[0..tail), in order of joining.
+// The pages of a collection: the lent labels, and the queue, which is links[0..tail), in order of joining. Links are
+// C's, who lends them, so the length stands beside them.
 #[derive(Drop)]
 pub struct Queue<'a> {
     pub labels: &'a mut [u16],
@@ -46,7 +47,7 @@ impl Queue<'_> {
 
     // A page gets the new label and joins the queue: a hinted one, one taken for copies, one kept.
     pub fn join(&mut self, page: u32)
-        requires fits { (self.old.tail < length self.old.labels.now) × (page < length self.old.labels.now) }
+        requires fits { (self.old.tail < length self.old.labels.now) × (page < length self.old.labels.now) × (length self.old.labels.now ≤ 4096) }
         ensures tail { self.new.tail ≡ self.old.tail + 1 }
         ensures labels { self.new.labels.now ≡ set self.old.labels.now page self.old.shape.new }
         ensures queue { take self.new.tail self.new.links.now ≡ take self.old.tail self.old.links.now ++ (page ∷ []) }

@@ -5,8 +5,8 @@ ghost use Rattle.rules.specs.Pages.{lowest_free, pages_used};
 
 use crate::lent::part;
 
-// How many pages from lo to hi - 1 are in use. Those past the labels are free. It counts by hand: a chain of `filter` and
-// `count` costs 11 instructions a label, and this 2.
+// How many pages from lo to hi - 1 are in use. Those past the labels are free. It counts by hand: a chain of `filter`
+// and `count` costs 11 instructions a label, and this 2.
 pub fn pages_used(labels: &[u16], lo: u32, hi: u32) -> u32
     ensures { (result ≡ pages_used labels.now lo hi) × (result ≤ hi - lo) }
 {

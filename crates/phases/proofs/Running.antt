@@ -106,7 +106,7 @@ module _ {r : Record} {h l k roots hints roots2 : List ℕ} {g : Gather} {n : �
   pub tails : n + g.kept ≤ g.queue.now.tail
   tails = let few = rw (← W.state) at W.safe.hinted in omega (arith, few, all_many, W.many)
 
-  pub retained : (h' l' k' : List ℕ) (a : Counts) → h' ≡ g.heap.now → l' ≡ g.queue.now.labels.now → k' ≡ g.queue.now.links.now → a ≡ answer_of r n (state_of g)
+  pub retained : (h' l' k' : List ℕ) (a : Counts) → h' ≡ g.heap.now → l' ≡ g.queue.now.labels.now → k' ≡ g.queue.now.links.now → a ≡ answer_of r n (state_of g) 0
       → Retained (lent h l k r) roots hints h' l' k' roots2 a
   retained h' l' k' a eh el ek ea =
       let all : n + (length (take g.queue.now.tail g.queue.now.links.now) - g.kept - n) + g.kept ≡ g.queue.now.tail = omega (arith, tails, all_many) in

@@ -10,15 +10,15 @@ use Rattle.hints.specs.declared.Shape.{Shape}
 abbrev pub shape_of : Record → Shape
 shape_of r = record { page = r.page; pages = r.pages; old = r.label; new = other_label r.label }
 
--- the answer after the sweep, where n pages were hinted
-abbrev pub answer_of : Record → ℕ → State → Counts
-answer_of r n s = record {
+-- the answer after the sweep, where n pages were hinted and there are f fillers
+abbrev pub answer_of : Record → ℕ → State → ℕ → Counts
+answer_of r n s f = record {
   hinted = n;
   taken = length s.pages.queue - s.pages.kept - n;
   objects = s.objects;
   words = s.words;
   kept = s.pages.kept;
-  fillers = 0;
+  fillers = f;
   rec = opening (relabelled r (other_label r.label)) s.pages.copy s.pages.fill;
 }
 
@@ -29,4 +29,4 @@ pub record Retained (m : Lent) (roots hints : List ℕ) (h l k roots2 : List ℕ
   pub labels : l ≡ (after_sweep (plan_of m plainly) m roots hints).pages.labels
   pub queue : take (a.hinted + a.taken + a.kept) k ≡ (after_sweep (plan_of m plainly) m roots hints).pages.queue
   pub places : a.hinted + a.taken + a.kept ≤ length k
-  pub answer : a ≡ answer_of m.rec (length (after_hints (plan_of m plainly) m hints).queue) (after_sweep (plan_of m plainly) m roots hints)
+  pub answer : a ≡ answer_of m.rec (length (after_hints (plan_of m plainly) m hints).queue) (after_sweep (plan_of m plainly) m roots hints) 0

@@ -37,11 +37,11 @@ pub fn shape_of(r: Record) -> Shape
     }
 }
 
-// The answer after the sweep, when there are no fillers yet, where `hinted` pages were hinted. The queue's other
-// pages were taken or kept.
-pub fn answer(r: Record, hinted: u32, g: &Gather) -> Counts
+// The answer where `hinted` pages were hinted and there are `fillers` fillers. The queue's other pages were taken or
+// kept.
+pub fn answer(r: Record, hinted: u32, g: &Gather, fillers: u32) -> Counts
     requires { hinted + g.now.kept ≤ g.now.queue.now.tail }
-    ensures { result ≡ answer_of r hinted (state_of g.now) }
+    ensures { result ≡ answer_of r hinted (state_of g.now) fillers }
 {
     let relabelled = r.relabelled(pages::other_label(r.label));
     let rec = relabelled.opening(g.copy, g.fill);
@@ -51,12 +51,13 @@ pub fn answer(r: Record, hinted: u32, g: &Gather) -> Counts
         objects: g.objects,
         words: g.words,
         kept: g.kept,
-        fillers: 0,
+        fillers,
         rec,
     }
 }
 
-// Steps 1 to 3: what the roots reach is retained. The links hold the queue by then: pages hinted, then pages
+// Steps 1 to 3: what the roots reach is retained. Heap, labels and links come one by one: the structs are made of them
+// here, and end here, so that the callers know what became of each. The links hold the queue by then: pages hinted, then pages
 // taken, then pages kept.
 fn retain<'a>(
     heap: &'a mut [u32],
@@ -92,7 +93,8 @@ fn retain<'a>(
     };
     gather.forward_roots(roots);
     sweep::sweep_queue(&mut gather);
-    answer(r, hinted, &gather)
+    // Fillers come after the structs have ended.
+    answer(r, hinted, &gather, 0)
 }
 
 // The four steps, on a heap that passed the tests of collect. Apart from them, both keep more in registers.

@@ -22,9 +22,9 @@ pub fn sweep_references(gather: &mut Gather, first: usize, stop: usize)
     }
 }
 
-// The objects of the page that begins at address `base`. The walk goes over the heap as it is by then,
-// so that copies put on this page meanwhile are met too. On a page kept for want of room it steps over the
-// places of objects that were copied, by the length at the copy.
+// The objects of the page that begins at address `base`. The walk goes over the heap as it is by then, so that copies
+// put on this page meanwhile are met too, and no range or iterator gives the places. On a page kept for want of room
+// it steps over the places of objects that were copied, by the length at the copy.
 pub fn sweep_page(gather: &mut Gather, base: usize)
     requires page_in_bounds { base + gather.old.queue.now.shape.page ≤ length gather.old.heap.now }
     requires safe_page { SafePage (plan_in gather.old) gather.old.queue.now.shape.page base gather.old.queue.now.shape.page (state_of gather.old) }
@@ -57,8 +57,8 @@ pub fn sweep_queue(gather: &mut Gather)
     ensures same_memory { SameMemory gather.old gather.new }
 {
     let mut head = 0;
-    while head < gather.queue.tail {
-        let page = gather.queue.links[head as usize];
+    while head < gather.queue.tail as usize {
+        let page = gather.queue.links[head];
         sweep_page(gather, usize::from(page) * gather.queue.shape.page as usize);
         head += 1;
     }

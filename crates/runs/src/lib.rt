@@ -50,7 +50,8 @@ pub fn run_text(input: &[u8], out: &mut ArrayString<264037>)
     text::push_ending(out, tally);
 }
 
-// The same at the start of an array, which keeps its bytes behind that. Answers how many bytes it wrote.
+// The same at the start of an array, which keeps its bytes behind that, for callers that have one; the session program
+// has a text. Answers how many bytes it wrote.
 pub fn run(input: &[u8], out: &mut [u8; 264037]) -> usize
     ensures prefix_len { IsPrefixLen result out.new }
     ensures value { (result ≡ length (transcript input.now)) × (out.new ≡ transcript input.now ++ drop result out.old) }

@@ -1,5 +1,5 @@
-// The session program: records from standard input, at most 64,000 bytes of them, and what the session prints to standard
-// output. The session itself is the crate `steps`.
+// The session program: records from standard input, at most 64,000 bytes of them, and what the session prints to
+// standard output. The session itself is the crate `steps`.
 
 #![tactic(auto)]
 

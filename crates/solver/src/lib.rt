@@ -1,7 +1,8 @@
-// The calls for the native solver and anyone else who writes C: include/fouterpin.h. They have no `requires`, since nobody
-// checks a C caller, and each is thin over the proved call of the same name. A slice crosses as a pointer and a count, each
-// by itself; C has no `Result` and no `Option`, so a refusal is a number, and 0 or the largest number stands for none.
-// This crate is a library, which Rattle programs call; the archive that C links is the crate `solver_c`, over this one.
+// The calls for the native solver and anyone else who writes C: include/fouterpin.h. They have no `requires`, since
+// nobody checks a C caller, and each is thin over the proved call of the same name. A slice crosses as a pointer and
+// a count, each by itself; C has no `Result` and no `Option`, so a refusal is a number, and 0 or the largest number
+// stands for none. This crate is a library, which Rattle programs call; the archive that C links is the crate
+// `solver_c`, over this one.
 
 #![tactic(auto)]
 

@@ -1,5 +1,6 @@
-// The archive for C: the calls of the crate `solver` once more, each with its name and its clauses, since a static library
-// hands out only what it defines itself. tools/archive builds it, and puts it to target/staticlib/libsolver.a.
+// The archive for C: the calls of the crate `solver` once more, each with its name and its clauses, since a static
+// library hands out only what it defines itself. tools/archive builds it, and puts it to
+// target/staticlib/libsolver.a.
 
 #![tactic(auto)]
 
@@ -109,7 +110,8 @@ pub extern "C" fn fouterpin_page_named(word: u32, page: u32, pages: u32) -> u32
     solver::fouterpin_page_named(word, page, pages)
 }
 
-// Which page the word before names, 0 for none; there is none before word 0. A hint word names this one too, after its own.
+// Which page the word before names, 0 for none; there is none before word 0. A hint word names this one too, after
+// its own.
 #[unsafe(no_mangle)]
 pub extern "C" fn fouterpin_page_named_before(word: u32, page: u32, pages: u32) -> u32
     ensures { result ≡ page_named_before_to_c word page pages }

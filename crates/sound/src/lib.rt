@@ -12,8 +12,8 @@ ghost use Rattle.layout.specs.Code.{lent_of};
 use layout::lent::{View, part};
 use numbers::header;
 
-// Only zeros from address a up to e. Words past the heap count as zeros. It goes over all words, also where one is none,
-// which in a sound heap is no more to do, and several words at a time are then tested; `all` tests one.
+// Only zeros from address a up to e. Words past the heap count as zeros. It goes over all words, also where one is
+// none, which in a sound heap is no more to do, and several words at a time are then tested; `all` tests one.
 fn is_blank(heap: &[u32], a: usize, e: usize) -> bool
     ensures { result ≡ is_blank heap.now a e }
 {

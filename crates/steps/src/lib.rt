@@ -2,5 +2,5 @@
 
 #![tactic(auto)]
 
-mod memory;
+pub mod memory;
 pub mod play;

@@ -1,5 +1,5 @@
 // The memory of a session: of its arrays the part that the last accepted start asked for, and the control record. Each
-// call gets exactly that part, cut out anew, since a method can lend two slices at most.
+// call gets exactly that part, cut out anew, since the library's clauses let a method lend two slices at most to be written.
 ghost use Rattle.std.specs.Prelude.{◌≡◌};
 ghost use Rattle.rules.specs.Calls.{allocate, store, load, look_up};
 ghost use Rattle.entries.specs.declared.Step.TheVariants.{Start, Collect};
@@ -17,12 +17,12 @@ use std::marker::Model;
 // beside the record, which each call gives anew: that a call leaves P and T as they were need then not be known here.
 #[derive(Drop)]
 pub struct Memory {
-    heap: [u32; 8192],
-    labels: [u16; 1024],
-    links: [u16; 1024],
-    words: usize,
-    pages: usize,
-    rec: Record,
+    pub heap: [u32; 8192],
+    pub labels: [u16; 1024],
+    pub links: [u16; 1024],
+    pub words: usize,
+    pub pages: usize,
+    pub rec: Record,
 }
 
 // What is lent.

@@ -24,10 +24,10 @@ fn put(cells: &mut [u32], x: u32, v: u32)
 
 // What there is from the first accepted start on: the memory that the last one lent, root cells and hint words.
 #[derive(Drop)]
-struct Begun {
-    memory: Memory,
-    roots: [u32; 16],
-    hints: [u32; 16],
+pub struct Begun {
+    pub memory: Memory,
+    pub roots: [u32; 16],
+    pub hints: [u32; 16],
 }
 
 impl Begun {
@@ -95,10 +95,11 @@ impl Begun {
     }
 }
 
-// Nothing has begun before the first accepted start.
+// Nothing has begun before the first accepted start. Any memory may stand here, damaged memory too: each step is what
+// the definition makes of it.
 #[derive(Drop)]
 pub struct Session {
-    begun: Option<Begun>,
+    pub begun: Option<Begun>,
 }
 
 impl Model for Session {

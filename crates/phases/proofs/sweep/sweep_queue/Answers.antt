@@ -15,7 +15,9 @@ sweep_page-requires c =
     rw c.from.ensures (record { page_in_bounds = inside; safe_page = safe })
 
 pub overflow_add-head : goal.overflow_add-head
-overflow_add-head c = let queued = c.loop-head.gather.queue.now.queued in omega (arith, queued.each, queued.tail, queued.few, c.loop-head-test.true)
+overflow_add-head c =
+    let queued = c.loop-head.gather.queue.now.queued in
+    omega (arith, queued.tail, c.loop-head.invariant.1.slices.places ∙ c.requires.links_len, c.loop-head-test.true)
 
 pub loop-head-preserved : goal.loop-head-preserved
 loop-head-preserved c =
