@@ -1,6 +1,6 @@
 // Collect: its tests in the order 1, 7, 6, and then the four steps. Nothing lent is changed before all tests have
-// passed. Heap, labels and links come one by one, as to allocate and
-// store: a struct of them would be built for this call alone.
+// passed. Heap, labels and links come one by one, as to allocate and store: a struct of them would be built for this
+// call alone.
 
 #![tactic(auto)]
 

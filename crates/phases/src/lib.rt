@@ -57,8 +57,8 @@ pub fn answer(r: Record, hinted: u32, g: &Gather, fillers: u32) -> Counts
 }
 
 // Steps 1 to 3: what the roots reach is retained. Heap, labels and links come one by one: the structs are made of them
-// here, and end here, so that the callers know what became of each. The links hold the queue by then: pages hinted, then pages
-// taken, then pages kept.
+// here, and end here, so that the callers know what became of each. The links hold the queue by then: pages hinted,
+// then pages taken, then pages kept.
 fn retain<'a>(
     heap: &'a mut [u32],
     labels: &'a mut [u16],

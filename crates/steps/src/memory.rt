@@ -1,5 +1,6 @@
 // The memory of a session: of its arrays the part that the last accepted start asked for, and the control record. Each
-// call gets exactly that part, cut out anew, since the library's clauses let a method lend two slices at most to be written.
+// call gets exactly that part, cut out anew, since the library's clauses let a method lend two slices at most to be
+// written.
 ghost use Rattle.std.specs.Prelude.{◌≡◌};
 ghost use Rattle.rules.specs.Calls.{allocate, store, load, look_up};
 ghost use Rattle.entries.specs.declared.Step.TheVariants.{Start, Collect};
