@@ -1,12 +1,9 @@
 -- Laws of one step: what a call's outcome makes of the session, and a start. Assumes nothing.
-use Rattle.std.proofs.Common.{◌≡◌, Bool, cond, Option, Some, None, ℕ, ◌*◌, ◌<◌, ◌≤◌, true, false, eqb, ◌≢◌, List, length, set, sym, refl, ap, ◌∙◌, mul-le-mul_left, arith, eq-eqb, ne_eqb, le-leb}
+use Rattle.std.proofs.Common.{◌≡◌, Bool, cond, ℕ, ◌*◌, ◌<◌, ◌≤◌, true, false, eqb, ◌≢◌, List, length, set, sym, refl, ap, ◌∙◌, mul-le-mul_left, arith, eq-eqb, ne_eqb, le-leb}
 use lib.ListN.{length-replicate}
 use borrow.Author.Tests.{eqb-false, lt-leb}
-use Rattle.std.specs.Option.{is_some}
 use Rattle.entries.specs.declared.Step.{Step}
 use Rattle.entries.specs.Entries.{is_allowed}
-use Rattle.steps.specs.declared.play.Begun.{Begun}
-use Rattle.steps.specs.Begun.{session_of}
 use Rattle.rules.specs.declared.Record.{Record}
 use Rattle.rules.specs.Tests.{and_is}
 use Rattle.rules.specs.Pages.{is_shape, page_at_start}
@@ -27,7 +24,7 @@ use Rattle.kept.specs.Store.{look_up_same, load_same}
 use Rattle.rules.specs.Ranges.{at}
 use Rattle.entries.specs.declared.Operand.{Operand}
 use Rattle.entries.specs.declared.Step.TheVariants.{Start, Allocate, Store, Load, Collect, LookUp}
-use Rattle.steps.specs.Session.{Session, Stepped, cells, holding, accepted, refused, passed, called, blank, placed, before, operand_of, root_plus, perform, step}
+use Rattle.steps.specs.Session.{Session, Stepped, cells, holding, accepted, refused, passed, called, blank, placed, operand_of, root_plus, perform, step}
 
 -- ---- a call
 
@@ -184,20 +181,12 @@ few_pages P T h l = omega (arith, mul-le-mul_left T (shape_says P T h).page_low)
 
 -- ---- refusal 9, at once or not
 
-begun_is : (o : Option Begun) → is_some o ≡ (session_of o).begun
-unfolding before
-begun_is None = refl
-begun_is (Some b) = refl
-
 -- `allowed` is what the code found out of session s
-module _ (s : Session) (o : Option Begun) (is : session_of o ≡ s) (t : Step) {b allowed : Bool} (b_is : b ≡ is_some o) (found : allowed ≡ is_allowed b t) where
-  known : allowed ≡ is_allowed s.begun t
-  known = rw (← is, ← begun_is o, ← b_is) found
-
+module _ (s : Session) (t : Step) {allowed : Bool} (found : allowed ≡ is_allowed s.begun t) where
   pub stops : allowed ≡ false → refused 9 s ≡ step s t
   unfolding step
-  stops h = rw (← known, h)
+  stops h = rw (← found, h)
 
   pub goes : allowed ≡ true → perform s t ≡ step s t
   unfolding step
-  goes h = rw (← known, h)
+  goes h = rw (← found, h)

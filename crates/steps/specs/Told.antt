@@ -1,5 +1,5 @@
 -- What the code's results say in the words of the definitions.
-use Rattle.std.specs.Prelude.{ℕ, List, true, Result, Ok, Err}
+use Rattle.std.specs.Prelude.{ℕ, Bool, List, true, Result, Ok, Err}
 use Rattle.rules.specs.Lent.{Lent}
 use Rattle.rules.specs.Calls.{Outcome}
 use Rattle.answers.specs.declared.Refusal.{Refusal}
@@ -23,11 +23,11 @@ called r m = record { refusal = refusal r; value = told r; lent = m }
 abbrev pub stepped : Result ℕ Refusal → Session → Stepped
 stepped r s = record { refusal = refusal r; value = told r; session = s }
 
--- the session after an accepted start, with this memory
-abbrev pub playing : Lent → List ℕ → List ℕ → Session
-playing m roots hints = record { begun = true; lent = m; roots = roots; hints = hints }
+-- the session with this memory, where `b` says whether a start was accepted
+abbrev pub playing : Bool → Lent → List ℕ → List ℕ → Session
+playing b m roots hints = record { begun = b; lent = m; roots = roots; hints = hints }
 
--- what a start in session s leaves: one with the memory that it lends, or the session as it was
-abbrev pub started : Result Lent Refusal → Session → Stepped
-started (Ok m) s = accepted 0 (playing m cells cells)
-started (Err e) s = stepped (Err e) s
+-- what a start leaves that was asked for in session s: one with the memory m that it lends, or s with m, which is what it was
+abbrev pub started : {A : Type 0} → Result A Refusal → Lent → Session → Stepped
+started (Ok u) m s = accepted 0 (playing true m cells cells)
+started (Err e) m s = stepped (Err e) (playing s.begun m s.roots s.hints)

@@ -1,10 +1,10 @@
 // The memory of a session: of its arrays the part that the last accepted start asked for, and the control record. Each
 // call gets exactly that part, cut out anew, since the library's clauses let a method lend two slices at most to be
 // written.
-ghost use Rattle.std.specs.Prelude.{◌≡◌};
+ghost use Rattle.std.specs.Prelude.{◌≡◌, ℕ, Bool, List};
 ghost use Rattle.rules.specs.Calls.{allocate, store, load, look_up};
 ghost use Rattle.entries.specs.declared.Step.TheVariants.{Start, Collect};
-ghost use Rattle.steps.specs.Session.{Session, perform};
+ghost use Rattle.steps.specs.Session.{before, perform};
 ghost use Rattle.layout.specs.Code.{lent_of};
 ghost use Rattle.steps.specs.Told.{called, playing, stepped, started};
 
@@ -40,34 +40,57 @@ impl Model for Memory {
 }
 
 impl Memory {
-    // The memory that a start lends, or why there is none: first bad P or T, and then a product past the arrays.
-    pub fn start(page: u32, pages: u32) -> Result<Self, Refusal>
-        ensures { (s : Session) → started result s ≡ perform s (Start page pages) }
+    // Nothing is lent yet.
+    #[tactic(auto, unfolding(crate::specs::Session::before))]
+    pub fn new() -> Self
+        ensures { result ≡ before.lent }
+    {
+        Memory {
+            heap: [0; 8192],
+            labels: [0; 1024],
+            links: [0; 1024],
+            words: 0,
+            pages: 0,
+            rec: Record {
+                page: 0,
+                pages: 0,
+                label: 0,
+                opened: 0,
+                fill: 0,
+            },
+        }
+    }
+
+    // The memory that a start lends, or why there is none: first bad P or T, and then a product past the arrays. Only the
+    // part that is lent is zeroed.
+    pub fn start(&mut self, page: u32, pages: u32) -> Result<(), Refusal>
+        ensures { (b : Bool) (roots hints : List ℕ) → started result self.new (playing b self.old roots hints) ≡ perform (playing b self.old roots hints) (Start page pages) }
     {
         let size = pages::page_at_start(page);
         if !pages::is_shape(size, pages) {
             return Err(Refusal::Layout);
         }
         let count = pages as usize;
-        let words = count * size as usize;
-        if 8192 < words {
+        let asked = count * size as usize;
+        if 8192 < asked {
             return Err(Refusal::BadEntry);
         }
-        let mut heap = [0; 8192];
-        let mut labels = [0; 1024];
-        let mut links = [0; 1024];
-        let (lent, _) = heap.split_at_mut(words);
-        let (lent_labels, _) = labels.split_at_mut(count);
-        let (lent_links, _) = links.split_at_mut(count);
-        let accepted = heap::start(lent, lent_labels, lent_links, page, pages)?;
-        Ok(Memory {
+        let Memory {
             heap,
             labels,
             links,
             words,
-            pages: count,
-            rec: accepted.rec,
-        })
+            pages: held,
+            rec,
+        } = self;
+        let (heap, _) = heap.split_at_mut(asked);
+        let (labels, _) = labels.split_at_mut(count);
+        let (links, _) = links.split_at_mut(count);
+        let accepted = heap::start(heap, labels, links, page, pages)?;
+        *words = asked;
+        *held = count;
+        *rec = accepted.rec;
+        Ok(())
     }
 
     // What is lent, to be read.
@@ -140,7 +163,7 @@ impl Memory {
 
     // A collection, of whose six counts the words copied are given.
     pub fn collect(&mut self, roots: &mut [u32], hints: &[u32]) -> Result<u32, Refusal>
-        ensures { stepped result (playing self.new roots.new hints.now) ≡ perform (playing self.old roots.old hints.now) Collect }
+        ensures { (b : Bool) → stepped result (playing b self.new roots.new hints.now) ≡ perform (playing b self.old roots.old hints.now) Collect }
     {
         let Memory {
             heap,

@@ -8,6 +8,7 @@ use Rattle.steps.proofs.memory.Memory.collect.Goals as goal
 
 pub returns-in_err-counts : goal.returns-in_err-counts
 returns-in_err-counts c =
+    λ b.
     let heap = c.split_at_mut-heap in
     let labels = c.split_at_mut-labels in
     let links = c.split_at_mut-links in
@@ -23,10 +24,11 @@ returns-in_err-counts c =
       take_at c.collect.new.heap heap.result.1.now c.self.inside.words (kept.heap ∙ heap.ensures.front_len),
       take_at c.collect.new.labels labels.result.1.now c.self.inside.pages (kept.labels ∙ labels.ensures.front_len),
       take_at c.collect.new.links links.result.1.now c.self.inside.pages (kept.links ∙ links.ensures.front_len),
-    ) (gathers_not (playing (lent heap.result.0.now labels.result.0.now links.result.0.now c.self.inside.rec) c.args.roots.now c.args.hints.now) _ c.in_err-counts.field-0.0 (rw c.in_err-counts.was at c.collect.ensures) refl refl)
+    ) (gathers_not (playing b (lent heap.result.0.now labels.result.0.now links.result.0.now c.self.inside.rec) c.args.roots.now c.args.hints.now) _ c.in_err-counts.field-0.0 (rw c.in_err-counts.was at c.collect.ensures) refl refl)
 
 pub returns : goal.returns
 returns c =
+    λ b.
     let heap = c.split_at_mut-heap in
     let labels = c.split_at_mut-labels in
     let links = c.split_at_mut-links in
@@ -39,4 +41,4 @@ returns c =
       take_at c.collect.new.heap heap.result.1.now c.self.inside.words (kept.heap ∙ heap.ensures.front_len),
       take_at c.collect.new.labels labels.result.1.now c.self.inside.pages (kept.labels ∙ labels.ensures.front_len),
       take_at c.collect.new.links links.result.1.now c.self.inside.pages (kept.links ∙ links.ensures.front_len),
-    ) (gathers (playing (lent heap.result.0.now labels.result.0.now links.result.0.now c.self.inside.rec) c.args.roots.now c.args.hints.now) _ (rw c.in_ok-counts.was at c.collect.ensures))
+    ) (gathers (playing b (lent heap.result.0.now labels.result.0.now links.result.0.now c.self.inside.rec) c.args.roots.now c.args.hints.now) _ (rw c.in_ok-counts.was at c.collect.ensures))

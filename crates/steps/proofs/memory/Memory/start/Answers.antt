@@ -1,40 +1,46 @@
 -- `steps::memory::Memory::start` meets its contract: the part that is lent has the lengths that P and T ask for, and an accepted
 -- start leaves the same of any such memory. Assumes nothing.
-use Rattle.std.proofs.Common.{◌*◌, sym, ◌∙◌, take_at}
+use Rattle.std.proofs.Common.{◌*◌, sym, ◌∙◌, arith, take_at}
 use Rattle.steps.specs.Session.{refused}
+use Rattle.steps.specs.Told.{playing}
 use Rattle.steps.proofs.Stepping.{not_0, start_refused_1, start_refused_9, few_pages, start_goes, start_accepted}
 use Rattle.steps.proofs.memory.Memory.start.Goals as goal
 
 pub returns-then-not-is_shape : goal.returns-then-not-is_shape
 unfolding refused
 returns-then-not-is_shape c =
-    λ s. start_refused_1 s c.args.page c.args.pages c.page_at_start-size.result c.page_at_start-size.ensures (sym c.is_shape.ensures ∙ c.if-not-is_shape.true)
+    λ b roots hints.
+    start_refused_1 (playing b c.args.self.now roots hints) c.args.page c.args.pages c.page_at_start-size.result c.page_at_start-size.ensures (sym c.is_shape.ensures ∙ c.if-not-is_shape.true)
 
-pub returns-then-words-gt8192 : goal.returns-then-words-gt8192
+pub returns-then-asked-gt8192 : goal.returns-then-asked-gt8192
 unfolding refused
-returns-then-words-gt8192 c =
-    λ s. start_refused_9 s c.args.page c.args.pages c.page_at_start-size.result c.page_at_start-size.ensures (sym c.is_shape.ensures ∙ c.if-not-is_shape.false) c.if-words-gt8192.true
+returns-then-asked-gt8192 c =
+    λ b roots hints.
+    start_refused_9 (playing b c.args.self.now roots hints) c.args.page c.args.pages c.page_at_start-size.result c.page_at_start-size.ensures (sym c.is_shape.ensures ∙ c.if-not-is_shape.false) c.if-asked-gt8192.true
 
-pub split_at_mut-lent_labels-requires : goal.split_at_mut-lent_labels-requires
-split_at_mut-lent_labels-requires c = few_pages _ _ (sym c.is_shape.ensures ∙ c.if-not-is_shape.false) c.if-words-gt8192.false
+pub split_at_mut-labels-requires : goal.split_at_mut-labels-requires
+split_at_mut-labels-requires c =
+    omega (arith, few_pages _ _ (sym c.is_shape.ensures ∙ c.if-not-is_shape.false) c.if-asked-gt8192.false, c.self.told)
 
 pub returns-in_err-accepted : goal.returns-in_err-accepted
 returns-in_err-accepted c =
-    λ s.
+    λ b roots hints.
+    let s = playing b c.args.self.now roots hints in
     let e = rw c.in_err-accepted.was at (c.start.ensures s.lent.rec) in
     absurd (not_0 c.in_err-accepted.field-0.0 (start_goes s c.args.page c.args.pages c.page_at_start-size.result c.page_at_start-size.ensures _ _ e (sym c.is_shape.ensures ∙ c.if-not-is_shape.false)
-    c.split_at_mut-lent.ensures.front_len c.split_at_mut-lent_labels.ensures.front_len c.split_at_mut-lent_links.ensures.front_len))
+    c.split_at_mut-heap.ensures.front_len c.split_at_mut-labels.ensures.front_len c.split_at_mut-links.ensures.front_len))
 
 pub returns : goal.returns
 returns c =
-    λ s.
-    let heap = c.split_at_mut-lent in
-    let labels = c.split_at_mut-lent_labels in
-    let links = c.split_at_mut-lent_links in
+    λ b roots hints.
+    let s = playing b c.args.self.now roots hints in
+    let heap = c.split_at_mut-heap in
+    let labels = c.split_at_mut-labels in
+    let links = c.split_at_mut-links in
     let kept = c.start.auto in
     rw (
       take_at c.start.new.heap heap.result.1.now (c.args.pages * c.page_at_start-size.result) (kept.heap ∙ heap.ensures.front_len),
       take_at c.start.new.labels labels.result.1.now c.args.pages (kept.labels ∙ labels.ensures.front_len),
       take_at c.start.new.links links.result.1.now c.args.pages (kept.links ∙ links.ensures.front_len),
     ) (start_accepted s c.args.page c.args.pages c.page_at_start-size.result c.page_at_start-size.ensures
-    _ _ (rw c.in_ok-accepted.was at (c.start.ensures s.lent.rec)) (sym c.is_shape.ensures ∙ c.if-not-is_shape.false) c.if-words-gt8192.false heap.ensures.front_len labels.ensures.front_len links.ensures.front_len)
+    _ _ (rw c.in_ok-accepted.was at (c.start.ensures s.lent.rec)) (sym c.is_shape.ensures ∙ c.if-not-is_shape.false) c.if-asked-gt8192.false heap.ensures.front_len labels.ensures.front_len links.ensures.front_len)
