@@ -1,2 +1,3 @@
 pub mod Entries
 pub mod Examples
+pub mod Places

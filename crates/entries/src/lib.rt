@@ -73,7 +73,7 @@ impl From<[u8; 8]> for Entry {
 }
 
 // The entries of lent bytes, in their order, and at the end the bytes that are no whole entry, if there are any.
-#[derive(Drop)]
+#[derive(Clone, Copy)]
 pub struct Entries<'a> {
     bytes: &'a [u8],
 }
@@ -106,6 +106,13 @@ impl Iterator for Entries<'_> {
             }
         }
     }
+}
+
+// What stands at a place of the bytes: a whole entry, bytes that are none, or nothing, as past their end.
+pub fn read(bytes: &[u8], at: usize) -> Option<Result<Entry, Partial>>
+    ensures { result ≡ next_at bytes.now at }
+{
+    Entries::new(&bytes[at.min(bytes.len())..]).next()
 }
 
 // The step that an entry asks for. Bytes that its operation does not use are ignored.
