@@ -16,7 +16,7 @@ use std::marker::Model;
 
 // 8,192 words, the most that a start may ask for, make at most 1,024 pages of the least size. How much is lent stands
 // beside the record, which each call gives anew: that a call leaves P and T as they were need then not be known here.
-#[derive(Drop)]
+#[derive(Clone, Drop)]
 pub struct Memory {
     pub heap: [u32; 8192],
     pub labels: [u16; 1024],

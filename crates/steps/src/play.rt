@@ -23,7 +23,7 @@ fn put(cells: &mut [u32], x: u32, v: u32)
 
 // Whether a start was accepted, the memory that the last accepted one lent, root cells and hint words. Any of these may
 // stand here, before a start too, and damaged memory too: each step is what the definition makes of it.
-#[derive(Drop)]
+#[derive(Clone, Drop)]
 pub struct Session {
     pub begun: bool,
     pub memory: Memory,
