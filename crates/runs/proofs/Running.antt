@@ -1,17 +1,18 @@
 -- Laws of the run: what is left of the input tells how the definition goes on from there. Assumes nothing.
-use Rattle.std.proofs.Common.{◌≡◌, refl, ap, ◌∙◌, sym, Bool, true, false, cond, Option, Some, None, Result, Ok, Err, List, [], ◌++◌, ℕ, suc, ◌+◌, ◌-◌, ◌*◌, ◌/◌, ◌<◌, ◌≤◌, min, arith, length, take, drop, length-drop, eqb, leb, ltb, append_assoc}
-use Rattle.std.proofs.lemmas.List.{get_or-drop}
+use Rattle.std.proofs.Common.{◌≡◌, refl, ap, ◌∙◌, sym, Bool, true, false, cond, Option, Some, None, Result, Ok, Err, List, [], ◌++◌, ℕ, suc, ◌+◌, ◌-◌, ◌*◌, ◌/◌, ◌<◌, ◌≤◌, min, arith, length, take, drop, length-drop, eqb, leb, ltb, append_assoc, length-append}
 use native.Mathlib.Nat.{sub-zero}
 use lib.Seq.{take_all, drop-drop}
 use borrow.Author.Tests.{leb-true, leb-false, ltb-true, ltb-false}
 use Rattle.entries.specs.declared.Entry.{Entry}
 use Rattle.entries.specs.declared.Partial.{Partial}
 use Rattle.entries.specs.Entries.{entry_at, next_at}
+use Rattle.entries.specs.Places.{entry_on}
 use Rattle.lines.specs.declared.tally.Tally.{Tally}
 use Rattle.lines.specs.Lines.{line, none, noted, ending}
 use Rattle.steps.specs.Session.{Session, Stepped, refused}
 use Rattle.runs.specs.Run.{rest, answered, run}
 use Rattle.runs.specs.Answer.{answer}
+use Rattle.runs.specs.Turn.{Turned}
 
 -- ---- what stands at the start of what is left
 
@@ -30,28 +31,6 @@ stands l = by (leb 8 (length l)) (ltb 0 (length l)) refl refl
     by false true h k = (ltb-true 0 (length l) k, leb-false 8 (length l) h)
     by false false h k = omega (arith, ltb-false 0 (length l) k)
 
--- an entry of what is left is one of the whole
-there : (bytes : List ℕ) (a : ℕ) → entry_at (drop a bytes) 0 ≡ entry_at bytes a
-there bytes a =
-    let b1 : a + 4 + 1 ≡ a + 5 = omega arith in
-    let b2 : a + 4 + 2 ≡ a + 6 = omega arith in
-    let b3 : a + 4 + 3 ≡ a + 7 = omega arith in
-    let b0 : a + 0 ≡ a = omega arith in
-    rw (
-      get_or-drop a bytes 0 0,
-      get_or-drop a bytes 1 0,
-      get_or-drop a bytes 2 0,
-      get_or-drop a bytes 3 0,
-      get_or-drop a bytes 4 0,
-      get_or-drop a bytes 5 0,
-      get_or-drop a bytes 6 0,
-      get_or-drop a bytes 7 0,
-      b0,
-      b1,
-      b2,
-      b3,
-    )
-
 -- ---- the run from a place on
 
 abbrev pub onward : List ℕ → ℕ → Session → Tally → List ℕ
@@ -63,7 +42,7 @@ turn : (bytes : List ℕ) (a : ℕ) (s : Session) (t : Tally) (found : Result En
 unfolding Left run rest refused
 turn bytes a s t (Ok e) h =
     let n : (length bytes - a) / 8 ≡ suc ((length bytes - (a + 8)) / 8) = omega (arith, h.0, length-drop a bytes) in
-    rw (n, h.1, there bytes a)
+    rw (n, h.1, entry_on bytes a)
 turn bytes a s t (Err p) h =
     let n : (length bytes - a) / 8 ≡ 0 = omega (arith, h.0, h.1, length-drop a bytes) in
     let m : length bytes - a ≡ suc (length bytes - a - 1) = omega (arith, h.0, length-drop a bytes) in
@@ -149,6 +128,12 @@ module _ {bytes left : List ℕ} {s : Session} {t : Tally} {out whole : List ℕ
         near = omega (arith, records, near, now.near);
         text = rw (on, counted, put, append_assoc) (rw go at now.text);
       }
+
+  -- the same, of a record's line
+  pub turned : (found : Result Entry Partial) → Some found ≡ next_at left 0 → {text : List ℕ} {s' : Session} {t' : Tally}
+      → Turned t (answer s found) text s' t' → {out' : List ℕ} → out' ≡ out ++ text → Running bytes (drop 8 left) s' t' out' whole
+  turned found e {text} k put =
+      rw k.session (turns found e refl (put ∙ ap (λ (x : List ℕ). out ++ x) k.text) (omega (arith, ap length put, length-append out text, k.near)) k.tally)
 
   -- the last text
   pub ends : None ≡ next_at left 0 → {out' : List ℕ} → out' ≡ out ++ ending t → out' ≡ whole

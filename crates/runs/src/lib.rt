@@ -2,11 +2,13 @@
 
 #![tactic(auto)]
 
-ghost use Rattle.std.specs.Prelude.{◌≡◌, ◌++◌, length, drop};
+ghost use Rattle.std.specs.Prelude.{◌≡◌, ◌++◌, ◌+◌, ◌≤◌, length, take, drop};
 ghost use Rattle.io.specs.Counts.{IsPrefixLen};
 ghost use Rattle.steps.specs.Told.{refusal, told, stepped};
 ghost use Rattle.runs.specs.Run.{transcript};
+ghost use Rattle.lines.specs.Adds.{Adds};
 ghost use Rattle.runs.specs.Answer.{answer};
+ghost use Rattle.runs.specs.Turn.{Turned};
 
 use answers::Refusal;
 use arrayvec::ArrayString;
@@ -33,8 +35,50 @@ fn numbers(answer: Result<u32, Refusal>) -> (u32, u32)
     }
 }
 
-// Runs the session of these records, of which it reads 8,000 at most, and writes what it prints over `out`, which has
-// room for any: a line takes at most 33 bytes, and the last one 37.
+// A record's line, of 33 bytes at most; the record is counted.
+fn turn(session: &mut Session, tally: &mut Tally, found: Result<Entry, Partial>) -> ArrayString<33>
+    requires { Adds tally.old }
+    ensures { Turned tally.old (answer session.old found) result.bytes session.new tally.new }
+{
+    let (refusal, value) = numbers(answer(session, found));
+    let mut line = ArrayString::new();
+    text::push_line(&mut line, tally.records, refusal, value);
+    tally.note(refusal);
+    line
+}
+
+// A text goes into the array from `place` on. Answers the place behind it.
+fn put(out: &mut [u8; 264037], place: usize, text: &str) -> usize
+    requires { place + length text.now ≤ 264037 }
+    ensures place { result ≡ place + length text.now }
+    ensures text { out.new ≡ take place out.old ++ text.now ++ drop result out.old }
+{
+    let bytes = text.as_bytes();
+    let end = place + bytes.len();
+    out[place..end].copy_from_slice(bytes);
+    end
+}
+
+// Runs the session of these records, of which it reads 8,000 at most, and puts what it prints at the start of `out`,
+// which has room for any: a line takes at most 33 bytes, and the last one 37. Answers how many bytes that are.
+pub fn run(input: &[u8], out: &mut [u8; 264037]) -> usize
+    ensures prefix_len { IsPrefixLen result out.new }
+    ensures value { (result ≡ length (transcript input.now)) × (out.new ≡ transcript input.now ++ drop result out.old) }
+{
+    let mut session = Session::new();
+    let mut tally = Tally::default();
+    let mut place = 0;
+    let n = input.len().min(64000);
+    for found in Entries::new(&input[..n]) {
+        let line = turn(&mut session, &mut tally, found);
+        place = put(out, place, line.as_str());
+    }
+    let mut last = ArrayString::<37>::new();
+    text::push_ending(&mut last, tally);
+    put(out, place, last.as_str())
+}
+
+// The same over a text, for callers that have one; the session program has an array.
 pub fn run_text(input: &[u8], out: &mut ArrayString<264037>)
     ensures { out.new.bytes ≡ transcript input.now }
 {
@@ -43,23 +87,8 @@ pub fn run_text(input: &[u8], out: &mut ArrayString<264037>)
     let mut tally = Tally::default();
     let n = input.len().min(64000);
     for found in Entries::new(&input[..n]) {
-        let (refusal, value) = numbers(answer(&mut session, found));
-        text::push_line(out, tally.records, refusal, value);
-        tally.note(refusal);
+        let line = turn(&mut session, &mut tally, found);
+        out.push_str(line.as_str());
     }
     text::push_ending(out, tally);
-}
-
-// The same at the start of an array, which keeps its bytes behind that, for callers that have one; the session program
-// has a text. Answers how many bytes it wrote.
-pub fn run(input: &[u8], out: &mut [u8; 264037]) -> usize
-    ensures prefix_len { IsPrefixLen result out.new }
-    ensures value { (result ≡ length (transcript input.now)) × (out.new ≡ transcript input.now ++ drop result out.old) }
-{
-    let mut text = ArrayString::new();
-    run_text(input, &mut text);
-    let bytes = text.as_str().as_bytes();
-    let n = bytes.len();
-    out[..n].copy_from_slice(bytes);
-    n
 }
