@@ -4,7 +4,7 @@
 
 #![tactic(auto)]
 
-ghost use Rattle.std.specs.Prelude.{◌≡◌, ◌<◌, ◌≤◌, ◌+◌, ◌/◌, length};
+ghost use Rattle.std.specs.Prelude.{◌≡◌, cond, ◌<◌, ◌≤◌, ◌+◌, ◌/◌, length, leb};
 ghost use Rattle.rules.specs.Pages.{lowest_free};
 
 use hints::Queue;
@@ -33,12 +33,14 @@ impl Gather<'_, '_> {
     ghost use Rattle.laws.specs.Safe.{SafeTake, SafeCopy, SafeKeep, SafeForward, SafeRoots};
     ghost use Rattle.copies.specs.Code.{plan_in, pages_of, state_of, forwarded_of, rooted_of, SameMemory};
 
-    // The lowest-numbered free page is taken: the caller knows that there is one. No page below the cursor is
-    // free, so a whole collection looks at each label twice at most, here and in `can_copy`.
+    // The lowest-numbered free page is taken: the caller knows that there is one. The cursor moves past it, and nothing
+    // else moves the cursor, so a whole collection looks at each label twice at most, here and in `can_copy`.
     #[tactic(auto, unfolding(rules::specs::Collection::take_page))]
     fn take_page(&mut self)
         requires safe_take { SafeTake (plan_in self.old) (pages_of self.old) }
         ensures after { state_of self.new ≡ on_pages (state_of self.old) (take_page (plan_in self.old) (pages_of self.old)) }
+        ensures cursor { self.new.cursor ≡ self.new.copy + 1 }
+        ensures upwards { self.old.cursor ≤ self.new.cursor }
         ensures same_memory { SameMemory self.old self.new }
     {
         let queue = &mut *self.queue;
@@ -55,6 +57,8 @@ impl Gather<'_, '_> {
         requires fill_le_page { self.old.fill ≤ self.old.queue.now.shape.page }
         requires safe_take { self.old.queue.now.shape.page < self.old.fill + n → SafeTake (plan_in self.old) (pages_of self.old) }
         ensures after { state_of self.new ≡ on_pages (state_of self.old) (with_room (plan_in self.old) n (pages_of self.old)) }
+        ensures cursor { self.new.cursor ≡ cond (leb (self.old.fill + n) self.old.queue.now.shape.page) self.old.cursor (self.new.copy + 1) }
+        ensures upwards { self.old.cursor ≤ self.new.cursor }
         ensures same_memory { SameMemory self.old self.new }
     {
         if self.queue.shape.page - self.fill < n {
@@ -70,6 +74,8 @@ impl Gather<'_, '_> {
         requires safe_copy { SafeCopy (plan_in self.old) (size_of (at self.old.heap.now address)) address (state_of self.old) }
         requires address_in_bounds { address < length self.old.heap.now }
         ensures after { forwarded_of result (state_of self.new) ≡ copy_object (plan_in self.old) address (state_of self.old) }
+        ensures cursor { self.new.cursor ≡ cond (leb (self.old.fill + size_of (at self.old.heap.now address)) self.old.queue.now.shape.page) self.old.cursor (self.new.copy + 1) }
+        ensures upwards { self.old.cursor ≤ self.new.cursor }
         ensures same_memory { SameMemory self.old self.new }
     {
         let x = address as usize;
@@ -104,6 +110,7 @@ impl Gather<'_, '_> {
         requires page_in_bounds { address / self.old.queue.now.shape.page < length self.old.queue.now.labels.now }
         requires safe_keep { SafeKeep (plan_in self.old) (address / self.old.queue.now.shape.page) (pages_of self.old) }
         ensures after { forwarded_of result (state_of self.new) ≡ keep_object (plan_in self.old) address (state_of self.old) }
+        ensures cursor { self.new.cursor ≡ self.old.cursor }
         ensures same_memory { SameMemory self.old self.new }
     {
         let page = address / self.queue.shape.page;
@@ -120,6 +127,7 @@ impl Gather<'_, '_> {
     pub fn forward(&mut self, value: u32) -> u32
         requires safe_forward { SafeForward (plan_in self.old) value (state_of self.old) }
         ensures after { forwarded_of result (state_of self.new) ≡ forward (plan_in self.old) value (state_of self.old) }
+        ensures upwards { self.old.cursor ≤ self.new.cursor }
         ensures same_memory { SameMemory self.old self.new }
     {
         if value == 0 {
@@ -144,6 +152,7 @@ impl Gather<'_, '_> {
     pub fn forward_roots(&mut self, roots: &mut [u32])
         requires safe_roots { SafeRoots (plan_in self.old) roots.old (state_of self.old) }
         ensures after { rooted_of roots.new (state_of self.new) ≡ forward_roots (plan_in self.old) roots.old (state_of self.old) }
+        ensures upwards { self.old.cursor ≤ self.new.cursor }
         ensures same_memory { SameMemory self.old self.new }
     {
         for root in roots.iter_mut() {

@@ -13,6 +13,7 @@ pub fn sweep_references(gather: &mut Gather, first: usize, stop: usize)
     requires stop_in_bounds { stop ≤ length gather.old.heap.now }
     requires safe_references { SafeReferences (plan_in gather.old) (stop - first) first (state_of gather.old) }
     ensures after { state_of gather.new ≡ sweep_references (plan_in gather.old) (stop - first) first (state_of gather.old) }
+    ensures upwards { gather.old.cursor ≤ gather.new.cursor }
     ensures same_memory { SameMemory gather.old gather.new }
 {
     for w in first..stop {
@@ -29,6 +30,7 @@ pub fn sweep_page(gather: &mut Gather, base: usize)
     requires page_in_bounds { base + gather.old.queue.now.shape.page ≤ length gather.old.heap.now }
     requires safe_page { SafePage (plan_in gather.old) gather.old.queue.now.shape.page base gather.old.queue.now.shape.page (state_of gather.old) }
     ensures after { state_of gather.new ≡ sweep_page (plan_in gather.old) gather.old.queue.now.shape.page base gather.old.queue.now.shape.page (state_of gather.old) }
+    ensures upwards { gather.old.cursor ≤ gather.new.cursor }
     ensures same_memory { SameMemory gather.old gather.new }
 {
     let end = base + gather.queue.shape.page as usize;
@@ -54,6 +56,7 @@ pub fn sweep_queue(gather: &mut Gather)
     requires links_len { length gather.old.queue.now.links.now ≡ gather.old.queue.now.shape.pages }
     requires safe_queue { SafeQueue (plan_in gather.old) gather.old.queue.now.shape.pages 0 (state_of gather.old) }
     ensures after { state_of gather.new ≡ sweep_queue (plan_in gather.old) gather.old.queue.now.shape.pages 0 (state_of gather.old) }
+    ensures upwards { gather.old.cursor ≤ gather.new.cursor }
     ensures same_memory { SameMemory gather.old gather.new }
 {
     let mut head = 0;

@@ -6,7 +6,7 @@ use Rattle.phases.proofs.Sweeping.{pending_begin, pending_end, pending_safe, pen
 use Rattle.phases.proofs.sweep.sweep_queue.Goals as goal
 
 pub loop-head-init : goal.loop-head-init
-loop-head-init c = (pending_begin _ _ c.requires.safe_queue, memory_begin _)
+loop-head-init c = (pending_begin _ _ c.requires.safe_queue, memory_begin _, omega arith)
 
 pub sweep_page-requires : goal.sweep_page-requires
 sweep_page-requires c =
@@ -25,6 +25,7 @@ loop-head-preserved c =
     let same = c.sweep_page.ensures.same_memory in (
       pending_turn c.loop-head.invariant.0 _ _ refl queued.tail (c.loop-head.invariant.1.slices.places ∙ c.requires.links_len) c.loop-head-test.true _ (rw c.from.ensures at c.sweep_page.ensures.after) _ (ap plan same.slices.shape),
       memory_then c.loop-head.invariant.1 same,
+      omega (arith, c.loop-head.invariant.2, c.sweep_page.ensures.upwards),
     )
 
 pub returns-clause-after : goal.returns-clause-after
