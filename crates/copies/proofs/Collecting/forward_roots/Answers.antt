@@ -1,9 +1,9 @@
--- `copies::Gather::forward_roots`: the roots in order.
+-- `copies::Collecting::forward_roots`: the roots in order.
 use Rattle.std.proofs.Common.{ap, arith}
 use Rattle.hints.specs.Code.{plan}
 use Rattle.copies.specs.Code.{memory_begin, memory_then}
 use Rattle.copies.proofs.Rooting.{rooting_begin, rooting_end, rooting_safe, rooting_turn}
-use Rattle.copies.proofs.Gather.forward_roots.Goals as goal
+use Rattle.copies.proofs.Collecting.forward_roots.Goals as goal
 
 pub loop-root-init : goal.loop-root-init
 loop-root-init c = (rooting_begin _ _ _ c.requires.safe_roots, memory_begin _, omega arith)
