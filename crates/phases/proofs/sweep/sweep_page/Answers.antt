@@ -35,12 +35,12 @@ pub left_size-requires : goal.left_size-requires
 left_size-requires c = objects_left c.loop-x.invariant.0 c.loop-x-test.true
 
 pub returns-in_default-clause-after : goal.returns-in_default-clause-after
-returns-in_default-clause-after c = objects_stop c.loop-x.invariant.0 (sym c.is_header.ensures ∙ c.if-is_header.false) c.in_default.ensures
+returns-in_default-clause-after c = objects_stop c.loop-x.invariant.0 (sym c.is_header.ensures ∙ c.if-is_header.false) c.in_default.ensures.goes_on
 
 pub loop-x-preserved : goal.loop-x-preserved
 loop-x-preserved c =
     let same = c.loop-x.invariant.1 in (
-      objects_over c.loop-x.invariant.0 c.loop-x-test.true _ (sym c.is_header.ensures ∙ c.if-is_header.false) c.in-Some.ensures,
+      objects_over c.loop-x.invariant.0 c.loop-x-test.true _ (sym c.is_header.ensures ∙ c.if-is_header.false) c.in-Some.ensures.goes_on,
       record { heap = same.heap; size = same.size; queue = same.queue; slices = same.slices },
       c.loop-x.invariant.2,
     )
