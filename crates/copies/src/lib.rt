@@ -4,60 +4,70 @@
 
 #![tactic(auto)]
 
-ghost use Rattle.std.specs.Prelude.{◌≡◌, ◌<◌, ◌≤◌, ◌+◌, ◌/◌, length};
+ghost use Rattle.std.specs.Prelude.{◌≡◌, cond, ◌<◌, ◌≤◌, ◌+◌, ◌/◌, length, leb};
 ghost use Rattle.rules.specs.Pages.{lowest_free};
 
 use hints::Queue;
 use numbers::header;
 
-// The state of a collection: the lent heap, the pages, and what it counts. No page below the cursor is free; copies
-// go to the page `copy`, at its fill, 0 before the first, as in the definition and in C's record; the last `kept`
-// pages of the queue were kept for want of room; objects and words were copied.
-#[derive(Drop)]
-pub struct Gather<'a, 'q> {
-    pub heap: &'a mut [u32],
-    pub queue: &'q mut Queue<'a>,
+// What a collection counts, beside the length of its queue. No page below the cursor is free; copies go to the page
+// `copy`, at its fill, 0 before the first, as in the definition and in C's record; the last `kept` pages of the queue
+// were kept for want of room; objects and words were copied.
+#[derive(Clone, Copy)]
+pub struct Gather {
     pub cursor: u32,
     pub copy: u32,
     pub fill: u32,
     pub kept: u32,
     pub objects: u32,
     pub words: u32,
-    pub ghost lowest: { lowest_free queue.now.labels.now cursor queue.now.shape.pages ≡ lowest_free queue.now.labels.now 1 queue.now.shape.pages },
 }
 
-impl Gather<'_, '_> {
+// The state of a collection: the lent heap, the pages, and what it counts.
+#[derive(Drop)]
+pub struct Collecting<'a, 'q> {
+    pub heap: &'a mut [u32],
+    pub queue: &'q mut Queue<'a>,
+    pub gather: Gather,
+    pub ghost lowest: { lowest_free queue.now.labels.now gather.cursor queue.now.shape.pages ≡ lowest_free queue.now.labels.now 1 queue.now.shape.pages },
+}
+
+impl Collecting<'_, '_> {
     ghost use Rattle.rules.specs.Ranges.{at};
     ghost use Rattle.rules.specs.Header.{size_of};
     ghost use Rattle.rules.specs.Collection.{on_pages, take_page, with_room, copy_object, can_copy, keep_object, forward, forward_roots};
     ghost use Rattle.laws.specs.Safe.{SafeTake, SafeCopy, SafeKeep, SafeForward, SafeRoots};
     ghost use Rattle.copies.specs.Code.{plan_in, pages_of, state_of, forwarded_of, rooted_of, SameMemory};
 
-    // The lowest-numbered free page is taken: the caller knows that there is one. No page below the cursor is
-    // free, so a whole collection looks at each label twice at most, here and in `can_copy`.
+    // The lowest-numbered free page is taken: the caller knows that there is one. The cursor moves past it, and nothing
+    // else moves the cursor, so a whole collection looks at each label twice at most, here and in `can_copy`.
     #[tactic(auto, unfolding(rules::specs::Collection::take_page))]
     fn take_page(&mut self)
         requires safe_take { SafeTake (plan_in self.old) (pages_of self.old) }
         ensures after { state_of self.new ≡ on_pages (state_of self.old) (take_page (plan_in self.old) (pages_of self.old)) }
+        ensures cursor { self.new.gather.cursor ≡ self.new.gather.copy + 1 }
+        ensures upwards { self.old.gather.cursor ≤ self.new.gather.cursor }
         ensures same_memory { SameMemory self.old self.new }
     {
         let queue = &mut *self.queue;
-        let page = queue.lowest_free(self.cursor).unwrap();
+        let page = queue.lowest_free(self.gather.cursor).unwrap();
         queue.join(page);
-        self.cursor = page + 1;
-        self.copy = page;
-        self.fill = 0;
+        self.gather.cursor = page + 1;
+        self.gather.copy = page;
+        self.gather.fill = 0;
     }
 
     // Room for n words on the copy page: this one if they fit, otherwise a page taken.
     #[tactic(auto, unfolding(rules::specs::Collection::with_room))]
     fn make_room(&mut self, n: u32)
-        requires fill_le_page { self.old.fill ≤ self.old.queue.now.shape.page }
-        requires safe_take { self.old.queue.now.shape.page < self.old.fill + n → SafeTake (plan_in self.old) (pages_of self.old) }
+        requires fill_le_page { self.old.gather.fill ≤ self.old.queue.now.shape.page }
+        requires safe_take { self.old.queue.now.shape.page < self.old.gather.fill + n → SafeTake (plan_in self.old) (pages_of self.old) }
         ensures after { state_of self.new ≡ on_pages (state_of self.old) (with_room (plan_in self.old) n (pages_of self.old)) }
+        ensures cursor { self.new.gather.cursor ≡ cond (leb (self.old.gather.fill + n) self.old.queue.now.shape.page) self.old.gather.cursor (self.new.gather.copy + 1) }
+        ensures upwards { self.old.gather.cursor ≤ self.new.gather.cursor }
         ensures same_memory { SameMemory self.old self.new }
     {
-        if self.queue.shape.page - self.fill < n {
+        if self.queue.shape.page - self.gather.fill < n {
             self.take_page();
         }
     }
@@ -70,17 +80,19 @@ impl Gather<'_, '_> {
         requires safe_copy { SafeCopy (plan_in self.old) (size_of (at self.old.heap.now address)) address (state_of self.old) }
         requires address_in_bounds { address < length self.old.heap.now }
         ensures after { forwarded_of result (state_of self.new) ≡ copy_object (plan_in self.old) address (state_of self.old) }
+        ensures cursor { self.new.gather.cursor ≡ cond (leb (self.old.gather.fill + size_of (at self.old.heap.now address)) self.old.queue.now.shape.page) self.old.gather.cursor (self.new.gather.copy + 1) }
+        ensures upwards { self.old.gather.cursor ≤ self.new.gather.cursor }
         ensures same_memory { SameMemory self.old self.new }
     {
         let x = address as usize;
         let n = header::size_of(self.heap[x]);
         self.make_room(n as u32);
-        let top = self.copy * self.queue.shape.page + self.fill;
+        let top = self.gather.copy * self.queue.shape.page + self.gather.fill;
         self.heap.copy_within(x..x + n, top as usize);
         self.heap[x] = 2 * top;
-        self.fill += n as u32;
-        self.objects += 1;
-        self.words += n as u32;
+        self.gather.fill += n as u32;
+        self.gather.objects += 1;
+        self.gather.words += n as u32;
         top
     }
 
@@ -88,12 +100,13 @@ impl Gather<'_, '_> {
     // fits the copy page or a page is free.
     #[tactic(auto, unfolding(rules::specs::Collection::can_copy))]
     fn can_copy(&self, n: u32) -> bool
-        requires fill_le_page { self.now.fill ≤ self.now.queue.now.shape.page }
+        requires fill_le_page { self.now.gather.fill ≤ self.now.queue.now.shape.page }
         ensures { result ≡ can_copy (plan_in self.now) n (pages_of self.now) }
     {
         let queue = &*self.queue;
-        self.kept == 0
-            && (n <= queue.shape.page - self.fill || queue.lowest_free(self.cursor).is_some())
+        self.gather.kept == 0
+            && (n <= queue.shape.page - self.gather.fill
+                || queue.lowest_free(self.gather.cursor).is_some())
     }
 
     // The object at this address, which can't be copied, stays, and its page is kept: it gets the new label
@@ -104,11 +117,12 @@ impl Gather<'_, '_> {
         requires page_in_bounds { address / self.old.queue.now.shape.page < length self.old.queue.now.labels.now }
         requires safe_keep { SafeKeep (plan_in self.old) (address / self.old.queue.now.shape.page) (pages_of self.old) }
         ensures after { forwarded_of result (state_of self.new) ≡ keep_object (plan_in self.old) address (state_of self.old) }
+        ensures cursor { self.new.gather.cursor ≡ self.old.gather.cursor }
         ensures same_memory { SameMemory self.old self.new }
     {
         let page = address / self.queue.shape.page;
         self.queue.join(page);
-        self.kept += 1;
+        self.gather.kept += 1;
         address
     }
 
@@ -120,6 +134,7 @@ impl Gather<'_, '_> {
     pub fn forward(&mut self, value: u32) -> u32
         requires safe_forward { SafeForward (plan_in self.old) value (state_of self.old) }
         ensures after { forwarded_of result (state_of self.new) ≡ forward (plan_in self.old) value (state_of self.old) }
+        ensures upwards { self.old.gather.cursor ≤ self.new.gather.cursor }
         ensures same_memory { SameMemory self.old self.new }
     {
         if value == 0 {
@@ -144,6 +159,7 @@ impl Gather<'_, '_> {
     pub fn forward_roots(&mut self, roots: &mut [u32])
         requires safe_roots { SafeRoots (plan_in self.old) roots.old (state_of self.old) }
         ensures after { rooted_of roots.new (state_of self.new) ≡ forward_roots (plan_in self.old) roots.old (state_of self.old) }
+        ensures upwards { self.old.gather.cursor ≤ self.new.gather.cursor }
         ensures same_memory { SameMemory self.old self.new }
     {
         for root in roots.iter_mut() {

@@ -6,9 +6,10 @@
 #![tactic(auto)]
 
 ghost use Rattle.std.specs.Prelude.{◌≡◌, true, false, [], ◌+◌, ◌≤◌, length, MatchOption};
+ghost use Rattle.std.specs.Option.{unwrap_or};
 ghost use Rattle.rules.specs.Collection.{is_left, fill_page, fill_pages};
 ghost use Rattle.laws.specs.Safe.{SafeStep, SafeFill, SafeFills};
-ghost use Rattle.fillers.specs.Places.{LeftBy};
+ghost use Rattle.fillers.specs.Places.{left_size, LeftBy};
 ghost use Rattle.fillers.specs.Code.{FilledAs};
 
 use heap::object;
@@ -16,10 +17,11 @@ use numbers::header;
 
 // The length at the copy, if an object was copied out of the place that begins with `word`, where there are
 // `room` words before the page's end.
-#[tactic(auto, unfolding(rules::specs::Collection::size_at_copy))]
+#[tactic(auto, unfolding(rules::specs::Collection::size_at_copy, crate::specs::Places::left_size))]
 pub fn left_size(heap: &[u32], word: u32, room: usize) -> Option<usize>
     requires { is_left word room ≡ true → SafeStep heap.now word room }
-    ensures { MatchOption result (is_left word room ≡ false) (λ n. LeftBy heap.now word room n) }
+    ensures value { unwrap_or result 0 ≡ left_size heap.now word room }
+    ensures goes_on { MatchOption result (is_left word room ≡ false) (λ n. LeftBy heap.now word room n) }
 {
     if !header::is_left(word, room) {
         return None;

@@ -1,4 +1,5 @@
--- The queue as the code holds it, in the links up to its tail: what ties it to the labels, and laws of it that hints and copies use.
+-- The queue as the code holds it, in the links up to its tail: what ties it to the labels, as the ghost field of `Queue` has it, and
+-- two laws of it: how a page joins, as `join` ensures too, and how long it is, which phases uses.
 use Rattle.std.specs.Prelude.{◌≡◌, List, [], ◌∷◌, ◌++◌, ℕ, ◌+◌, ◌≤◌, ◌<◌, length, set, take}
 use Rattle.std.proofs.Common.{arith, add-one, length-take, take-suc-set}
 

@@ -15,7 +15,7 @@ use Rattle.hints.specs.declared.Shape.{Shape}
 use Rattle.hints.specs.declared.Queue.{Queue}
 use Rattle.hints.specs.Code.{plan, hinted_of}
 use Rattle.hints.specs.Queue.{queue_length}
-use Rattle.copies.specs.declared.Gather.{Gather}
+use Rattle.copies.specs.declared.Collecting.{Collecting}
 use Rattle.copies.specs.Code.{state_of, rooted_of}
 use Rattle.fillers.specs.Code.{FilledAs}
 use Rattle.phases.specs.Code.{shape_of, answer_of, Retained}
@@ -81,42 +81,42 @@ module _ {r : Record} {h l k roots hints : List ℕ} {K : Plan} {roots2 : List �
   unfolding plan_of
   queue_safe = rw (R.plan, ap (λ (x : Rooted). x.state) R.rooted) R.safe.on_queue
 
--- ---- after the sweep, which leaves what the code has as g
+-- ---- after the sweep, which leaves what the code has as c
 
-pub record Swept (r : Record) (h l k roots hints : List ℕ) (roots2 : List ℕ) (g : Gather) (n : ℕ) : Type 0 where
+pub record Swept (r : Record) (h l k roots hints : List ℕ) (roots2 : List ℕ) (c : Collecting) (n : ℕ) : Type 0 where
   pub safe : SafeRun (planned r h l k) (lent h l k r) roots hints
   pub rooted : roots2 ≡ (after_roots (planned r h l k) (lent h l k r) roots hints).roots
-  pub state : state_of g ≡ after_sweep (planned r h l k) (lent h l k r) roots hints
+  pub state : state_of c ≡ after_sweep (planned r h l k) (lent h l k r) roots hints
   pub many : length (after_hints (planned r h l k) (lent h l k r) hints).queue ≡ n
 
 pub swept_is : {r : Record} {h l k roots hints : List ℕ} {K : Plan} {roots2 : List ℕ} {s : State} {n : ℕ} → RootsDone r h l k roots hints K roots2 s n
-    → (g : Gather) → state_of g ≡ sweep_queue K K.hi 0 s → Swept r h l k roots hints roots2 g n
+    → (c : Collecting) → state_of c ≡ sweep_queue K K.hi 0 s → Swept r h l k roots hints roots2 c n
 unfolding after_sweep plan_of
-swept_is R g e = record {
+swept_is R c e = record {
   safe = R.safe;
   rooted = ap (λ (x : Rooted). x.roots) R.rooted;
   state = e ∙ rw (R.plan, ap (λ (x : Rooted). x.state) R.rooted);
   many = R.many;
 }
 
-module _ {r : Record} {h l k roots hints roots2 : List ℕ} {g : Gather} {n : ℕ} (W : Swept r h l k roots hints roots2 g n) where
-  all_many : length (take g.queue.now.tail g.queue.now.links.now) ≡ g.queue.now.tail
-  all_many = queue_length g.queue.now.links.now g.queue.now.tail g.queue.now.queued.tail
+module _ {r : Record} {h l k roots hints roots2 : List ℕ} {c : Collecting} {n : ℕ} (W : Swept r h l k roots hints roots2 c n) where
+  all_many : length (take c.queue.now.tail c.queue.now.links.now) ≡ c.queue.now.tail
+  all_many = queue_length c.queue.now.links.now c.queue.now.tail c.queue.now.queued.tail
 
-  pub tails : n + g.kept ≤ g.queue.now.tail
+  pub tails : n + c.gather.kept ≤ c.queue.now.tail
   tails = let few = rw (← W.state) at W.safe.hinted in omega (arith, few, all_many, W.many)
 
-  pub retained : (h' l' k' : List ℕ) (a : Counts) → h' ≡ g.heap.now → l' ≡ g.queue.now.labels.now → k' ≡ g.queue.now.links.now → a ≡ answer_of r n (state_of g) 0
+  pub retained : (h' l' k' : List ℕ) (a : Counts) → h' ≡ c.heap.now → l' ≡ c.queue.now.labels.now → k' ≡ c.queue.now.links.now → a ≡ answer_of r n c.queue.now.tail c.gather 0
       → Retained (lent h l k r) roots hints h' l' k' roots2 a
   retained h' l' k' a eh el ek ea =
-      let all : n + (length (take g.queue.now.tail g.queue.now.links.now) - g.kept - n) + g.kept ≡ g.queue.now.tail = omega (arith, tails, all_many) in
+      let all : n + (c.queue.now.tail - c.gather.kept - n) + c.gather.kept ≡ c.queue.now.tail = omega (arith, tails) in
       rw (eh, el, ek, ea) (record {
         rooted = W.rooted;
         heap = ap (λ (s : State). s.heap) W.state;
         labels = ap (λ (s : State). s.pages.labels) W.state;
         queue = rw all (ap (λ (s : State). s.pages.queue) W.state);
-        places = rw all g.queue.now.queued.tail;
-        answer = rw (W.many, ← W.state);
+        places = rw all c.queue.now.queued.tail;
+        answer = rw (W.many, ← W.state, all_many);
       })
 
 -- ---- the whole

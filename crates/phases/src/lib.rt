@@ -14,12 +14,11 @@ ghost use Rattle.rules.specs.Collection.{plainly, plan_of, collection};
 ghost use Rattle.rules.specs.Collect.{collect_outcome, accepted_collect};
 ghost use Rattle.laws.specs.Valid.{Layout};
 ghost use Rattle.laws.specs.Safe.{SafeRun};
-ghost use Rattle.copies.specs.Code.{state_of};
 ghost use Rattle.answers.specs.Answers.{collected};
 ghost use Rattle.phases.specs.Code.{shape_of, answer_of, Retained};
 
 use answers::Counts;
-use copies::Gather;
+use copies::{Collecting, Gather};
 use hints::{Queue, Shape};
 use numbers::pages;
 use rules::Record;
@@ -37,17 +36,17 @@ pub fn shape_of(r: Record) -> Shape
     }
 }
 
-// The answer where `hinted` pages were hinted and there are `fillers` fillers. The queue's other pages were taken or
-// kept.
-pub fn answer(r: Record, hinted: u32, g: &Gather, fillers: u32) -> Counts
-    requires { hinted + g.now.kept ≤ g.now.queue.now.tail }
-    ensures { result ≡ answer_of r hinted (state_of g.now) fillers }
+// The answer where `hinted` of the `queued` pages were hinted and there are `fillers` fillers. The other pages were
+// taken or kept.
+pub fn answer(r: Record, hinted: u32, queued: u32, g: Gather, fillers: u32) -> Counts
+    requires { hinted + g.kept ≤ queued }
+    ensures { result ≡ answer_of r hinted queued g fillers }
 {
     let relabelled = r.relabelled(pages::other_label(r.label));
     let rec = relabelled.opening(g.copy, g.fill);
     Counts {
         hinted,
-        taken: g.queue.tail - g.kept - hinted,
+        taken: queued - g.kept - hinted,
         objects: g.objects,
         words: g.words,
         kept: g.kept,
@@ -81,9 +80,7 @@ fn retain<'a>(
     queue.hint_words(hints);
     let hinted = queue.tail;
     // With no copy page the fill is P, so that nothing fits.
-    let mut gather = Gather {
-        heap,
-        queue: &mut queue,
+    let gather = Gather {
         cursor: 1,
         copy: 0,
         fill: r.page,
@@ -91,10 +88,15 @@ fn retain<'a>(
         objects: 0,
         words: 0,
     };
-    gather.forward_roots(roots);
-    sweep::sweep_queue(&mut gather);
+    let mut collecting = Collecting {
+        heap,
+        queue: &mut queue,
+        gather,
+    };
+    collecting.forward_roots(roots);
+    sweep::sweep_queue(&mut collecting);
     // Fillers come after the structs have ended.
-    answer(r, hinted, &gather, 0)
+    answer(r, hinted, collecting.queue.tail, collecting.gather, 0)
 }
 
 // The four steps, on a heap that passed the tests of collect. Apart from them, both keep more in registers.

@@ -5,42 +5,44 @@ ghost use Rattle.rules.specs.Collection.{sweep_references, sweep_page, sweep_que
 ghost use Rattle.laws.specs.Safe.{SafeReferences, SafePage, SafeQueue};
 ghost use Rattle.copies.specs.Code.{plan_in, state_of, SameMemory};
 
-use copies::Gather;
+use copies::Collecting;
 use numbers::header;
 
 // The references of one object, the words from address `first` up to `stop`.
-pub fn sweep_references(gather: &mut Gather, first: usize, stop: usize)
-    requires stop_in_bounds { stop ≤ length gather.old.heap.now }
-    requires safe_references { SafeReferences (plan_in gather.old) (stop - first) first (state_of gather.old) }
-    ensures after { state_of gather.new ≡ sweep_references (plan_in gather.old) (stop - first) first (state_of gather.old) }
-    ensures same_memory { SameMemory gather.old gather.new }
+pub fn sweep_references(collecting: &mut Collecting, first: usize, stop: usize)
+    requires stop_in_bounds { stop ≤ length collecting.old.heap.now }
+    requires safe_references { SafeReferences (plan_in collecting.old) (stop - first) first (state_of collecting.old) }
+    ensures after { state_of collecting.new ≡ sweep_references (plan_in collecting.old) (stop - first) first (state_of collecting.old) }
+    ensures upwards { collecting.old.gather.cursor ≤ collecting.new.gather.cursor }
+    ensures same_memory { SameMemory collecting.old collecting.new }
 {
     for w in first..stop {
-        let value = gather.heap[w];
-        let forwarded = gather.forward(value);
-        gather.heap[w] = forwarded;
+        let value = collecting.heap[w];
+        let forwarded = collecting.forward(value);
+        collecting.heap[w] = forwarded;
     }
 }
 
 // The objects of the page that begins at address `base`. The walk goes over the heap as it is by then, so that copies
 // put on this page meanwhile are met too, and no range or iterator gives the places. On a page kept for want of room
 // it steps over the places of objects that were copied, by the length at the copy.
-pub fn sweep_page(gather: &mut Gather, base: usize)
-    requires page_in_bounds { base + gather.old.queue.now.shape.page ≤ length gather.old.heap.now }
-    requires safe_page { SafePage (plan_in gather.old) gather.old.queue.now.shape.page base gather.old.queue.now.shape.page (state_of gather.old) }
-    ensures after { state_of gather.new ≡ sweep_page (plan_in gather.old) gather.old.queue.now.shape.page base gather.old.queue.now.shape.page (state_of gather.old) }
-    ensures same_memory { SameMemory gather.old gather.new }
+pub fn sweep_page(collecting: &mut Collecting, base: usize)
+    requires page_in_bounds { base + collecting.old.queue.now.shape.page ≤ length collecting.old.heap.now }
+    requires safe_page { SafePage (plan_in collecting.old) collecting.old.queue.now.shape.page base collecting.old.queue.now.shape.page (state_of collecting.old) }
+    ensures after { state_of collecting.new ≡ sweep_page (plan_in collecting.old) collecting.old.queue.now.shape.page base collecting.old.queue.now.shape.page (state_of collecting.old) }
+    ensures upwards { collecting.old.gather.cursor ≤ collecting.new.gather.cursor }
+    ensures same_memory { SameMemory collecting.old collecting.new }
 {
-    let end = base + gather.queue.shape.page as usize;
+    let end = base + collecting.queue.shape.page as usize;
     let mut x = base;
     while x < end {
-        let word = gather.heap[x];
+        let word = collecting.heap[x];
         if header::is_header(word, end - x) {
             let first = x + 1;
-            sweep_references(gather, first, first + header::refs_of(word));
+            sweep_references(collecting, first, first + header::refs_of(word));
             x += header::size_of(word);
         } else {
-            let heap = &mut *gather.heap;
+            let heap = &mut *collecting.heap;
             let Some(size) = fillers::left_size(heap, word, end - x) else {
                 return;
             };
@@ -50,16 +52,20 @@ pub fn sweep_page(gather: &mut Gather, base: usize)
 }
 
 // Each page in the queue, in order of joining. The queue grows meanwhile, so its end is asked for at each turn.
-pub fn sweep_queue(gather: &mut Gather)
-    requires links_len { length gather.old.queue.now.links.now ≡ gather.old.queue.now.shape.pages }
-    requires safe_queue { SafeQueue (plan_in gather.old) gather.old.queue.now.shape.pages 0 (state_of gather.old) }
-    ensures after { state_of gather.new ≡ sweep_queue (plan_in gather.old) gather.old.queue.now.shape.pages 0 (state_of gather.old) }
-    ensures same_memory { SameMemory gather.old gather.new }
+pub fn sweep_queue(collecting: &mut Collecting)
+    requires links_len { length collecting.old.queue.now.links.now ≡ collecting.old.queue.now.shape.pages }
+    requires safe_queue { SafeQueue (plan_in collecting.old) collecting.old.queue.now.shape.pages 0 (state_of collecting.old) }
+    ensures after { state_of collecting.new ≡ sweep_queue (plan_in collecting.old) collecting.old.queue.now.shape.pages 0 (state_of collecting.old) }
+    ensures upwards { collecting.old.gather.cursor ≤ collecting.new.gather.cursor }
+    ensures same_memory { SameMemory collecting.old collecting.new }
 {
     let mut head = 0;
-    while head < gather.queue.tail as usize {
-        let page = gather.queue.links[head];
-        sweep_page(gather, usize::from(page) * gather.queue.shape.page as usize);
+    while head < collecting.queue.tail as usize {
+        let page = collecting.queue.links[head];
+        sweep_page(
+            collecting,
+            usize::from(page) * collecting.queue.shape.page as usize,
+        );
         head += 1;
     }
 }

@@ -20,11 +20,11 @@ pub left_size-requires : goal.left_size-requires
 left_size-requires c = filling_safe c.loop-x.invariant.0 c.loop-x-test.true
 
 pub returns-in_default-clause-filled_as : goal.returns-in_default-clause-filled_as
-returns-in_default-clause-filled_as c = filling_stop c.loop-x.invariant.0 (sym c.is_header.ensures ∙ c.if-is_header.false) c.in_default.ensures
+returns-in_default-clause-filled_as c = filling_stop c.loop-x.invariant.0 (sym c.is_header.ensures ∙ c.if-is_header.false) c.in_default.ensures.goes_on
 
 pub loop-x-preserved : goal.loop-x-preserved
 loop-x-preserved c =
-    (filling_place c.loop-x.invariant.0 c.loop-x-test.true _ (sym c.is_header.ensures ∙ c.if-is_header.false) c.in-Some.ensures _ c.put.ensures, c.put.auto.heap ∙ c.loop-x.invariant.1)
+    (filling_place c.loop-x.invariant.0 c.loop-x-test.true _ (sym c.is_header.ensures ∙ c.if-is_header.false) c.in-Some.ensures.goes_on _ c.put.ensures, c.put.auto.heap ∙ c.loop-x.invariant.1)
 
 pub returns-clause-filled_as : goal.returns-clause-filled_as
 returns-clause-filled_as c = filling_past c.loop-x.invariant.0 c.loop-x-test.false

@@ -24,12 +24,12 @@ pub answer-requires : goal.answer-requires
 answer-requires c =
     let hinted = hinted_is c.args.r c.args.heap.now c.args.labels.now c.args.links.now c.args.roots.now c.args.hints.now _ c.requires.safe_run c.shape_of-shape.ensures c.hint_words.new.self c.hint_words.ensures.same_slices.shape c.hint_words.ensures.after in
     let rooted = roots_done hinted c.forward_roots.new.roots (state_of c.forward_roots.new.self) c.forward_roots.ensures.after _ (ap plan c.forward_roots.ensures.same_memory.slices.shape) in
-    let swept = swept_is rooted c.sweep_queue.new.gather c.sweep_queue.ensures.after in
+    let swept = swept_is rooted c.sweep_queue.new.collecting c.sweep_queue.ensures.after in
     tails swept
 
 pub returns : goal.returns
 returns c =
     let hinted = hinted_is c.args.r c.args.heap.now c.args.labels.now c.args.links.now c.args.roots.now c.args.hints.now _ c.requires.safe_run c.shape_of-shape.ensures c.hint_words.new.self c.hint_words.ensures.same_slices.shape c.hint_words.ensures.after in
     let rooted = roots_done hinted c.forward_roots.new.roots (state_of c.forward_roots.new.self) c.forward_roots.ensures.after _ (ap plan c.forward_roots.ensures.same_memory.slices.shape) in
-    let swept = swept_is rooted c.sweep_queue.new.gather c.sweep_queue.ensures.after in
+    let swept = swept_is rooted c.sweep_queue.new.collecting c.sweep_queue.ensures.after in
     retained swept _ _ _ _ (search rules) (search rules) (search rules) c.answer.ensures

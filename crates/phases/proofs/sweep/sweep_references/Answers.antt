@@ -7,7 +7,7 @@ use Rattle.phases.proofs.Sweeping.{references_end, references_safe, references_t
 use Rattle.phases.proofs.sweep.sweep_references.Goals as goal
 
 pub loop-w-init : goal.loop-w-init
-loop-w-init c = (record { plan = refl; same = refl; safe = c.requires.safe_references }, memory_begin _)
+loop-w-init c = (record { plan = refl; same = refl; safe = c.requires.safe_references }, memory_begin _, omega arith)
 
 pub forward-forwarded-requires : goal.forward-forwarded-requires
 forward-forwarded-requires c = record { safe_forward = references_safe c.loop-w.invariant.0 c.loop-w-test.true }
@@ -18,6 +18,7 @@ loop-w-preserved c =
     let all = memory_then c.loop-w.invariant.1 same in (
       references_turn c.loop-w.invariant.0 c.loop-w-test.true _ (state_of c.forward-forwarded.new.self) c.forward-forwarded.ensures.after _ (ap plan same.slices.shape),
       record { heap = all.heap; size = length-set _ _ _ ∙ all.size; queue = all.queue; slices = all.slices },
+      omega (arith, c.loop-w.invariant.2, c.forward-forwarded.ensures.upwards),
     )
 
 pub returns-clause-after : goal.returns-clause-after

@@ -1,7 +1,7 @@
--- `copies::Gather::take_page`: the page taken was the lowest free one, so the next is past it.
+-- `copies::Collecting::take_page`: the page taken was the lowest free one, so the next is past it.
 use Rattle.std.proofs.Common.{◌∙◌, arith}
 use Rattle.copies.proofs.Cursor.{cursor_moves}
-use Rattle.copies.proofs.Gather.take_page.Goals as goal
+use Rattle.copies.proofs.Collecting.take_page.Goals as goal
 
 pub invariant_of-self : goal.invariant_of-self
 invariant_of-self c =

@@ -1,7 +1,0 @@
--- `copies::Gather::forward_roots`: the roots done, with what the others give, are what all of them give at first.
-use Rattle.copies.specs.Code.{plan_in, state_of, SameMemory}
-use Rattle.copies.proofs.Rooting.{Rooting}
-use Rattle.copies.proofs.Gather.forward_roots.Given as goal
-
-abbrev pub invariant-loop-root : goal.invariant-loop-root
-invariant-loop-root l = Rooting (plan_in l.initial.self) l.initial.roots (state_of l.initial.self) (plan_in l.self) l.roots (state_of l.self) l.root-index × SameMemory l.initial.self l.self
