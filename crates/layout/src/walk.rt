@@ -1,6 +1,7 @@
 // The walk of a page, and what is found at an address.
-ghost use Rattle.std.specs.Prelude.{◌≡◌, ◌+◌, ◌≤◌, ◌<◌};
+ghost use Rattle.std.specs.Prelude.{◌≡◌, List, ℕ, ◌+◌, ◌≤◌, ◌<◌};
 ghost use Rattle.rules.specs.Ranges.{each};
+ghost use Rattle.rules.specs.Lent.{lent};
 ghost use Rattle.rules.specs.Walk.{landing, found, is_start, is_reference};
 ghost use Rattle.laws.specs.Walk.{objects};
 ghost use Rattle.layout.specs.Code.{lent_of};
@@ -55,7 +56,7 @@ impl View<'_> {
     // T - 1 needs no test that it has a label.
     #[inline(always)]
     pub fn find(&self, address: u32) -> Found
-        ensures { result ≡ found (lent_of self.now) address }
+        ensures { (links : List ℕ) → result ≡ found (lent self.now.heap.now self.now.labels.now links self.now.rec) address }
     {
         let r = self.rec;
         if r.page == 0 {
@@ -77,7 +78,7 @@ impl View<'_> {
     // An object starts at the address.
     #[inline]
     pub fn is_start(&self, address: u32) -> bool
-        ensures { result ≡ is_start (lent_of self.now) address }
+        ensures { (links : List ℕ) → result ≡ is_start (lent self.now.heap.now self.now.labels.now links self.now.rec) address }
     {
         matches!(self.find(address), Found::Start(_))
     }
@@ -86,7 +87,7 @@ impl View<'_> {
     #[inline]
     #[tactic(auto, unfolding(rules::specs::Walk::is_reference))]
     pub fn is_reference(&self, value: u32) -> bool
-        ensures { result ≡ is_reference (lent_of self.now) value }
+        ensures { (links : List ℕ) → result ≡ is_reference (lent self.now.heap.now self.now.labels.now links self.now.rec) value }
     {
         value == 0 || self.is_start(value)
     }

@@ -1,6 +1,6 @@
 // Pages by number: their size, which one a word names, how many a collection may need.
-ghost use Rattle.std.specs.Prelude.{◌≡◌, ◌≤◌, ◌<◌, ◌%◌, eqb};
-ghost use Rattle.std.specs.Option.{unwrap_or, IfSome};
+ghost use Rattle.std.specs.Prelude.{◌≡◌, ◌≤◌, ◌<◌, ◌-◌, ◌/◌, ◌%◌, ◌&&◌, eqb, leb, ltb};
+ghost use Rattle.std.specs.Option.{is_some, unwrap_or, IfSome};
 ghost use Rattle.rules.specs.Pages.{is_page_size, is_shape, page_at_start, page_named, page_named_before, other_label, page_named_to_c, page_named_before_to_c, pages_needed_to_c};
 
 // P is a power of two from 8 to 1,024.
@@ -27,9 +27,10 @@ pub fn page_at_start(page: u32) -> u32
     if page == 0 { 64 } else { page }
 }
 
-// The page from lo to hi - 1 that the word names.
+// The page from lo to hi - 1 that the word names. Where lo is 0, page 0 is one of them.
 #[tactic(auto, unfolding(rules::specs::Pages::page_named))]
 pub fn page_named(page: u32, lo: u32, hi: u32, word: u32) -> Option<u32>
+    ensures some { is_some result ≡ (ltb 0 page && (leb lo (word / page) && ltb (word / page) hi)) }
     ensures named { unwrap_or result 0 ≡ page_named page lo hi word }
     ensures in_range { IfSome result (λ g. (lo ≤ g) × (g < hi)) }
 {
@@ -40,6 +41,7 @@ pub fn page_named(page: u32, lo: u32, hi: u32, word: u32) -> Option<u32>
 // The page that the word before names. There is no word before word 0.
 #[tactic(auto, unfolding(rules::specs::Pages::page_named_before))]
 pub fn page_named_before(page: u32, lo: u32, hi: u32, word: u32) -> Option<u32>
+    ensures some { is_some result ≡ (leb 1 word && (ltb 0 page && (leb lo ((word - 1) / page) && ltb ((word - 1) / page) hi))) }
     ensures named { unwrap_or result 0 ≡ page_named_before page lo hi word }
     ensures in_range { IfSome result (λ g. (lo ≤ g) × (g < hi)) }
 {

@@ -30,7 +30,7 @@ pub fn look_up(view: &View<'_>, address: u32) -> Result<Accepted, Refusal>
 
 // The header of the object that starts at the address, which has a payload word of that index.
 #[inline(always)]
-#[tactic(auto, using(crate::proofs::Laws::found_within), unfolding(rules::specs::Calls::refused, rules::specs::Calls::inside))]
+#[tactic(auto, unfolding(rules::specs::Calls::refused))]
 fn header_at(view: &View<'_>, address: u32, index: u32) -> Result<u32, Refusal>
     ensures goes_on { (go : ℕ → Outcome) → go_on (lent_of view.now) result go ≡ payload_word (lent_of view.now) address index go }
     ensures inside { IfOk result (λ w. address + 1 + index < length view.now.heap.now) }
@@ -38,16 +38,16 @@ fn header_at(view: &View<'_>, address: u32, index: u32) -> Result<u32, Refusal>
     if !view.is_valid() {
         return Err(Refusal::Layout);
     }
-    match view.find(address) {
-        Found::Start(w) => {
-            if header::size_of(w) - 1 <= index as usize {
-                return Err(Refusal::Index);
-            }
-            Ok(w)
-        }
-        Found::Inside(start) => Err(Refusal::Inside(start)),
-        Found::Nothing => Err(Refusal::NothingThere),
+    let found = view.find(address);
+    // Where no object starts, look-up's answer is a refusal, and this one's too.
+    answers::told(found, address, view.rec)?;
+    let Found::Start(w) = found else {
+        unreachable!()
+    };
+    if header::size_of(w) - 1 <= index as usize {
+        return Err(Refusal::Index);
     }
+    Ok(w)
 }
 
 // The payload word of that index, of the object that starts at the address.

@@ -3,7 +3,7 @@
 
 #![tactic(auto)]
 
-ghost use Rattle.std.specs.Prelude.{◌≡◌, ◌+◌};
+ghost use Rattle.std.specs.Prelude.{◌≡◌, ◌+◌, eqb};
 ghost use Rattle.rules.specs.Ranges.{at, block, each};
 ghost use Rattle.rules.specs.Walk.{is_reference};
 ghost use Rattle.rules.specs.Sound.{is_blank, is_used_sound, is_page_sound, is_sound};
@@ -12,16 +12,26 @@ ghost use Rattle.layout.specs.Code.{lent_of};
 use layout::lent::{View, part};
 use numbers::header;
 
-// Only zeros from address a up to e. Words past the heap count as zeros. It goes over all words, also where one is
-// none, which in a sound heap is no more to do, and several words at a time are then tested; `all` tests one.
+// These words are all zeros. It goes over all of them, also where one is none, so that several are tested at a time;
+// `all` tests one.
+#[inline]
+fn are_zeros(words: &[u32]) -> bool
+    ensures { result ≡ each (λ w. eqb w 0) words.now }
+{
+    let mut zeros = true;
+    for word in words {
+        zeros &= *word == 0;
+    }
+    zeros
+}
+
+// Only zeros from address a up to e. Words past the heap count as zeros. It leaves off at the first 32 words that are not
+// all zeros, so that a heap which is refused for a word is read little further than that word.
 fn is_blank(heap: &[u32], a: usize, e: usize) -> bool
     ensures { result ≡ is_blank heap.now a e }
 {
-    let mut blank = true;
-    for word in part(heap, a, e) {
-        blank &= *word == 0;
-    }
-    blank
+    let (chunks, rest) = part(heap, a, e).as_chunks::<32>();
+    chunks.iter().all(|chunk| are_zeros(chunk)) && are_zeros(rest)
 }
 
 // Only references from address a up to e. A zero, as past the heap, is one.

@@ -5,7 +5,7 @@ use Rattle.laws.specs.Valid.{valid_layout}
 use Rattle.rules.specs.Collect.{refused_collect}
 use Rattle.laws.specs.Collect.{ready_says, collect_refuses}
 use Rattle.theory.proofs.Collections.{collect_safe}
-use Rattle.collector.proofs.Laws.{refused_some}
+use Rattle.answers.proofs.Laws.{refused_some}
 use Rattle.collector.proofs.collect.Goals as goal
 
 pub returns-in_err-refusal_if_any : goal.returns-in_err-refusal_if_any

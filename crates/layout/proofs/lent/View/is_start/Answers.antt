@@ -11,7 +11,7 @@ no_start (Inside s) n = refl
 no_start Nothing n = refl
 
 pub returns-in-Start : goal.returns-in-Start
-returns-in-Start c = ap was_start c.in-Start.ensures ∙ found_is _ _
+returns-in-Start c = λ links. ap was_start (c.in-Start.ensures links) ∙ found_is _ _
 
 pub returns-in_default : goal.returns-in_default
-returns-in_default c = sym (no_start _ c.in_default.not-Start) ∙ ap was_start c.find.ensures ∙ found_is _ _
+returns-in_default c = λ links. sym (no_start _ c.in_default.not-Start) ∙ ap was_start (c.find.ensures links) ∙ found_is _ _
