@@ -61,8 +61,8 @@ impl Memory {
         }
     }
 
-    // The memory that a start lends, or why there is none: first bad P or T, and then a product past the arrays. Only the
-    // part that is lent is zeroed.
+    // The memory that a start lends, or why there is none: first bad P or T, and then a product past the arrays. It
+    // zeroes the part that is lent, and no more.
     pub fn start(&mut self, page: u32, pages: u32) -> Result<(), Refusal>
         ensures { (b : Bool) (roots hints : List ℕ) → started result self.new (playing b self.old roots hints) ≡ perform (playing b self.old roots hints) (Start page pages) }
     {
