@@ -67,6 +67,11 @@ impl Refusal {
 }
 
 impl fmt::Display for Refusal {
+    ghost use Rattle.std.specs.Prelude.{Some};
+    ghost use Rattle.answers.specs.Words.{words};
+
+    ghost output = { λ refusal. Some (words refusal) };
+
     fn fmt<W: fmt::Write>(&self, f: &mut fmt::Formatter<W>) -> fmt::Result {
         match self {
             Refusal::Layout => f.write_str("a wrong length, page size, number of pages or record"),
