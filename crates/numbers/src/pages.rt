@@ -27,7 +27,8 @@ pub fn page_at_start(page: u32) -> u32
     if page == 0 { 64 } else { page }
 }
 
-// The page from lo to hi - 1 that the word names. Where lo is 0, page 0 is one of them.
+// The page from lo to hi - 1 that the word names. Where lo is 0, page 0 is one of them. (A test of the range (lo..hi) as
+// a whole costs C's two calls below half as much again.)
 #[tactic(auto, unfolding(rules::specs::Pages::page_named))]
 pub fn page_named(page: u32, lo: u32, hi: u32, word: u32) -> Option<u32>
     ensures some { is_some result ≡ (ltb 0 page && (leb lo (word / page) && ltb (word / page) hi)) }
@@ -35,7 +36,10 @@ pub fn page_named(page: u32, lo: u32, hi: u32, word: u32) -> Option<u32>
     ensures in_range { IfSome result (λ g. (lo ≤ g) × (g < hi)) }
 {
     let g = word.checked_div(page)?;
-    (lo..hi).contains(&g).then_some(g)
+    if g < lo {
+        return None;
+    }
+    (g < hi).then_some(g)
 }
 
 // The page that the word before names. There is no word before word 0.
@@ -61,19 +65,20 @@ pub fn begins_page(page: u32, word: u32) -> bool
 pub fn page_named_checked(word: u32, page: u32, pages: u32) -> u32
     ensures { result ≡ page_named_to_c word page pages }
 {
-    if is_shape(page, pages) {
-        page_named(page, 1, pages, word).unwrap_or(0)
-    } else {
-        0
+    if !is_shape(page, pages) {
+        return 0;
     }
+    page_named(page, 1, pages, word).unwrap_or(0)
 }
 
 #[tactic(auto, unfolding(rules::specs::Pages::page_named_before_to_c, rules::specs::Pages::page_named_to_c, rules::specs::Pages::page_named_before))]
 pub fn page_named_before_checked(word: u32, page: u32, pages: u32) -> u32
     ensures { result ≡ page_named_before_to_c word page pages }
 {
-    word.checked_sub(1)
-        .map_or(0, |before| page_named_checked(before, page, pages))
+    if !is_shape(page, pages) {
+        return 0;
+    }
+    page_named_before(page, 1, pages, word).unwrap_or(0)
 }
 
 // How many pages a collection may take for `words` words on pages of `page`. A native solver may ask with any page
