@@ -87,17 +87,6 @@ gathers s o e = rw e (sym (passed_is s _ _ _ (λ n. let k = collect_refused s.le
 
 -- ---- refusals of the code
 
-pub not_0 : (e : Refusal) → number e ≡ 0 → ⊥
-not_0 Layout h = omega arith
-not_0 Shape h = omega arith
-not_0 CollectFirst h = omega arith
-not_0 NothingThere h = omega arith
-not_0 Index h = omega arith
-not_0 BadReference h = omega arith
-not_0 Unsound h = omega arith
-not_0 BadEntry h = omega arith
-not_0 (Inside a) h = omega arith
-
 valueless : (e : Refusal) → number e ≢ 10 → value e ≡ 0
 valueless Layout h = refl
 valueless Shape h = refl

@@ -1,9 +1,10 @@
 -- `steps::memory::Memory::start` meets its contract: the part that is lent has the lengths that P and T ask for, and an accepted
 -- start leaves the same of any such memory. Assumes nothing.
 use Rattle.std.proofs.Common.{◌*◌, sym, ◌∙◌, arith, take_at}
+use Rattle.answers.proofs.Laws.{refused_some}
 use Rattle.steps.specs.Session.{refused}
 use Rattle.steps.specs.Told.{playing}
-use Rattle.steps.proofs.Stepping.{not_0, start_refused_1, start_refused_9, few_pages, start_goes, start_accepted}
+use Rattle.steps.proofs.Stepping.{start_refused_1, start_refused_9, few_pages, start_goes, start_accepted}
 use Rattle.steps.proofs.memory.Memory.start.Goals as goal
 
 pub returns-then-not-is_shape : goal.returns-then-not-is_shape
@@ -27,7 +28,7 @@ returns-in_err-accepted c =
     λ b roots hints.
     let s = playing b c.args.self.now roots hints in
     let e = rw c.in_err-accepted.was at (c.start.ensures s.lent.rec) in
-    absurd (not_0 c.in_err-accepted.field-0.0 (start_goes s c.args.page c.args.pages c.page_at_start-size.result c.page_at_start-size.ensures _ _ e (sym c.is_shape.ensures ∙ c.if-not-is_shape.false)
+    absurd (refused_some c.in_err-accepted.field-0.0 (start_goes s c.args.page c.args.pages c.page_at_start-size.result c.page_at_start-size.ensures _ _ e (sym c.is_shape.ensures ∙ c.if-not-is_shape.false)
     c.split_at_mut-heap.ensures.front_len c.split_at_mut-labels.ensures.front_len c.split_at_mut-links.ensures.front_len))
 
 pub returns : goal.returns
