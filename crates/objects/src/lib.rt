@@ -39,7 +39,7 @@ fn header_at(view: &View<'_>, address: u32, index: u32) -> Result<u32, Refusal>
         return Err(Refusal::Layout);
     }
     let found = view.find(address);
-    // Where no object starts, look-up's answer is a refusal, and this one's too.
+    // Where no object starts, this refuses as look-up does.
     answers::told(found, address, view.rec)?;
     let Found::Start(w) = found else {
         unreachable!()

@@ -25,8 +25,8 @@ fn are_zeros(words: &[u32]) -> bool
     zeros
 }
 
-// Only zeros from address a up to e. Words past the heap count as zeros. It leaves off at the first 32 words that are not
-// all zeros, so that a heap which is refused for a word is read little further than that word.
+// Only zeros from address a up to e. Words past the heap count as zeros. It leaves off at the first 32 words that are
+// not all zeros, so that a heap that is refused for a word is read little further than that word.
 fn is_blank(heap: &[u32], a: usize, e: usize) -> bool
     ensures { result ≡ is_blank heap.now a e }
 {
