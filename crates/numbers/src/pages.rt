@@ -68,6 +68,10 @@ pub fn page_named_checked(word: u32, page: u32, pages: u32) -> u32
     if !is_shape(page, pages) {
         return 0;
     }
+    // A word on page 0 needs no division.
+    if word < page {
+        return 0;
+    }
     page_named(page, 1, pages, word).unwrap_or(0)
 }
 

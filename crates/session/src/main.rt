@@ -8,9 +8,9 @@ ghost use Rattle.std.specs.Prelude.{◌≤◌, length, IfOk};
 use std::io;
 use std::io::Read;
 
-// Reads until `buf` is full or the input ends, and answers how many bytes it put at the start of `buf`. One read may give
-// fewer bytes than there is room for. Each read has all the room that is left: of a packet longer than what a read asks
-// for (`io::copy` asks for 8,192 bytes) the rest is lost.
+// Reads until `buf` is full or the input ends, and answers how many bytes it put at the start of `buf`. One read may
+// give fewer bytes than there is room for. Each read has all the room that is left: of a packet longer than what a read
+// asks for (`io::copy` asks for 8,192 bytes) the rest is lost.
 fn read_full(from: &mut impl Read, buf: &mut [u8]) -> io::Result<usize>
     ensures { IfOk result (λ n. n ≤ length buf.new) }
 {
