@@ -99,8 +99,9 @@ fn retain<'a>(
     answer(r, hinted, collecting.queue.tail, collecting.gather, 0)
 }
 
-// The four steps, on a heap that passed the tests of collect. Apart from them, both keep more in registers.
-#[inline(never)]
+// The four steps, on a heap that passed the tests of collect. Made one function with these, they divide by P with a
+// shift: the tests know it for a power of two.
+#[inline(always)]
 pub fn run(
     heap: &mut [u32],
     labels: &mut [u16],
