@@ -27,7 +27,12 @@ stepped r s = record { refusal = refusal r; value = told r; session = s }
 abbrev pub playing : Bool → Lent → List ℕ → List ℕ → Session
 playing b m roots hints = record { begun = b; lent = m; roots = roots; hints = hints }
 
--- what a start leaves that was asked for in session s: one with the memory m that it lends, or s with m, which is what it was
+-- what a start leaves that was asked for in session s, any at all: one with the memory m that it lends, or s as it was
+abbrev pub started_in : {A : Type 0} → Result A Refusal → Lent → Session → Stepped
+started_in (Ok u) m s = accepted 0 (playing true m cells cells)
+started_in (Err e) m s = stepped (Err e) s
+
+-- the same where s had the memory that became m: what s has beside it, with m, which a refused start left as it was
 abbrev pub started : {A : Type 0} → Result A Refusal → Lent → Session → Stepped
 started (Ok u) m s = accepted 0 (playing true m cells cells)
 started (Err e) m s = stepped (Err e) (playing s.begun m s.roots s.hints)

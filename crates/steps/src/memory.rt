@@ -4,9 +4,9 @@
 ghost use Rattle.std.specs.Prelude.{◌≡◌, ℕ, Bool, List};
 ghost use Rattle.rules.specs.Calls.{allocate, store, load, look_up};
 ghost use Rattle.entries.specs.declared.Step.TheVariants.{Start, Collect};
-ghost use Rattle.steps.specs.Session.{before, perform};
+ghost use Rattle.steps.specs.Session.{Session, before, perform};
 ghost use Rattle.layout.specs.Code.{lent_of};
-ghost use Rattle.steps.specs.Told.{called, playing, stepped, started};
+ghost use Rattle.steps.specs.Told.{called, playing, stepped, started, started_in};
 
 use answers::Refusal;
 use layout::lent::View;
@@ -62,9 +62,11 @@ impl Memory {
     }
 
     // The memory that a start lends, or why there is none: first bad P or T, and then a product past the arrays. It
-    // zeroes the part that is lent, and no more.
+    // zeroes the part that is lent, and no more. What it answers hangs on P and T alone, so it tells what a start does
+    // in any session, whatever memory that has.
     pub fn start(&mut self, page: u32, pages: u32) -> Result<(), Refusal>
-        ensures { (b : Bool) (roots hints : List ℕ) → started result self.new (playing b self.old roots hints) ≡ perform (playing b self.old roots hints) (Start page pages) }
+        ensures in_any { (s : Session) → started_in result self.new s ≡ perform s (Start page pages) }
+        ensures here { (b : Bool) (roots hints : List ℕ) → started result self.new (playing b self.old roots hints) ≡ perform (playing b self.old roots hints) (Start page pages) }
     {
         let size = pages::page_at_start(page);
         if !pages::is_shape(size, pages) {

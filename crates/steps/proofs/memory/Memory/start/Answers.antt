@@ -2,39 +2,47 @@
 -- start leaves the same of any such memory. Assumes nothing.
 use Rattle.std.proofs.Common.{◌*◌, sym, ◌∙◌, arith, take_at}
 use Rattle.answers.proofs.Laws.{refused_some}
-use Rattle.steps.specs.Session.{refused}
+use Rattle.steps.specs.Session.{before, refused}
 use Rattle.steps.specs.Told.{playing}
 use Rattle.steps.proofs.Stepping.{start_refused_1, start_refused_9, few_pages, start_goes, start_accepted}
 use Rattle.steps.proofs.memory.Memory.start.Goals as goal
 
-pub returns-then-not-is_shape : goal.returns-then-not-is_shape
+pub returns-then-not-is_shape-clause-in_any : goal.returns-then-not-is_shape-clause-in_any
 unfolding refused
-returns-then-not-is_shape c =
-    λ b roots hints.
-    start_refused_1 (playing b c.args.self.now roots hints) c.args.page c.args.pages c.page_at_start-size.result c.page_at_start-size.ensures (sym c.is_shape.ensures ∙ c.if-not-is_shape.true)
+returns-then-not-is_shape-clause-in_any c =
+    λ s. start_refused_1 s c.args.page c.args.pages c.page_at_start-size.result c.page_at_start-size.ensures (sym c.is_shape.ensures ∙ c.if-not-is_shape.true)
 
-pub returns-then-asked-gt8192 : goal.returns-then-asked-gt8192
+pub returns-then-not-is_shape-clause-here : goal.returns-then-not-is_shape-clause-here
+returns-then-not-is_shape-clause-here c = λ b roots hints. returns-then-not-is_shape-clause-in_any c (playing b c.args.self.now roots hints)
+
+pub returns-then-asked-gt8192-clause-in_any : goal.returns-then-asked-gt8192-clause-in_any
 unfolding refused
-returns-then-asked-gt8192 c =
-    λ b roots hints.
-    start_refused_9 (playing b c.args.self.now roots hints) c.args.page c.args.pages c.page_at_start-size.result c.page_at_start-size.ensures (sym c.is_shape.ensures ∙ c.if-not-is_shape.false) c.if-asked-gt8192.true
+returns-then-asked-gt8192-clause-in_any c =
+    λ s. start_refused_9 s c.args.page c.args.pages c.page_at_start-size.result c.page_at_start-size.ensures (sym c.is_shape.ensures ∙ c.if-not-is_shape.false) c.if-asked-gt8192.true
+
+pub returns-then-asked-gt8192-clause-here : goal.returns-then-asked-gt8192-clause-here
+returns-then-asked-gt8192-clause-here c = λ b roots hints. returns-then-asked-gt8192-clause-in_any c (playing b c.args.self.now roots hints)
 
 pub split_at_mut-labels-requires : goal.split_at_mut-labels-requires
 split_at_mut-labels-requires c =
     omega (arith, few_pages _ _ (sym c.is_shape.ensures ∙ c.if-not-is_shape.false) c.if-asked-gt8192.false, c.self.told)
 
-pub returns-in_err-accepted : goal.returns-in_err-accepted
-returns-in_err-accepted c =
-    λ b roots hints.
-    let s = playing b c.args.self.now roots hints in
-    let e = rw c.in_err-accepted.was at (c.start.ensures s.lent.rec) in
-    absurd (refused_some c.in_err-accepted.field-0.0 (start_goes s c.args.page c.args.pages c.page_at_start-size.result c.page_at_start-size.ensures _ _ e (sym c.is_shape.ensures ∙ c.if-not-is_shape.false)
-    c.split_at_mut-heap.ensures.front_len c.split_at_mut-labels.ensures.front_len c.split_at_mut-links.ensures.front_len))
+-- no start of memory that has the lengths is refused
+never : goal.After-from_residual → ⊥
+never c =
+    let e = rw c.in_err-accepted.was at (c.start.ensures before.lent.rec) in
+    refused_some c.in_err-accepted.field-0.0 (start_goes before c.args.page c.args.pages c.page_at_start-size.result c.page_at_start-size.ensures _ _ e (sym c.is_shape.ensures ∙ c.if-not-is_shape.false)
+    c.split_at_mut-heap.ensures.front_len c.split_at_mut-labels.ensures.front_len c.split_at_mut-links.ensures.front_len)
 
-pub returns : goal.returns
-returns c =
-    λ b roots hints.
-    let s = playing b c.args.self.now roots hints in
+pub returns-in_err-accepted-clause-in_any : goal.returns-in_err-accepted-clause-in_any
+returns-in_err-accepted-clause-in_any c = absurd (never c)
+
+pub returns-in_err-accepted-clause-here : goal.returns-in_err-accepted-clause-here
+returns-in_err-accepted-clause-here c = absurd (never c)
+
+pub returns-clause-in_any : goal.returns-clause-in_any
+returns-clause-in_any c =
+    λ s.
     let heap = c.split_at_mut-heap in
     let labels = c.split_at_mut-labels in
     let links = c.split_at_mut-links in
@@ -45,3 +53,6 @@ returns c =
       take_at c.start.new.links links.result.1.now c.args.pages (kept.links ∙ links.ensures.front_len),
     ) (start_accepted s c.args.page c.args.pages c.page_at_start-size.result c.page_at_start-size.ensures
     _ _ (rw c.in_ok-accepted.was at (c.start.ensures s.lent.rec)) (sym c.is_shape.ensures ∙ c.if-not-is_shape.false) c.if-asked-gt8192.false heap.ensures.front_len labels.ensures.front_len links.ensures.front_len)
+
+pub returns-clause-here : goal.returns-clause-here
+returns-clause-here c = λ b roots hints. returns-clause-in_any c (playing b c.args.self.now roots hints)
