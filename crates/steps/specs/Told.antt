@@ -32,7 +32,6 @@ abbrev pub started_in : {A : Type 0} → Result A Refusal → Lent → Session �
 started_in (Ok u) m s = accepted 0 (playing true m cells cells)
 started_in (Err e) m s = stepped (Err e) s
 
--- the same where s had the memory that became m: what s has beside it, with m, which a refused start left as it was
+-- the same with m in the place of the memory of s, so that a refused start has to leave that as it was
 abbrev pub started : {A : Type 0} → Result A Refusal → Lent → Session → Stepped
-started (Ok u) m s = accepted 0 (playing true m cells cells)
-started (Err e) m s = stepped (Err e) (playing s.begun m s.roots s.hints)
+started r m s = started_in r m (playing s.begun m s.roots s.hints)

@@ -1,6 +1,6 @@
 -- `steps::play::Session::step` meets its contract: refused at once, or performed. Assumes nothing.
-use Rattle.std.proofs.Common.{◌∙◌, ap}
-use Rattle.steps.specs.Session.{Session, refused}
+use Rattle.std.proofs.Common.{◌∙◌}
+use Rattle.steps.specs.Session.{refused}
 use Rattle.steps.proofs.Stepping.{stops, goes}
 use Rattle.steps.proofs.play.Session.step.Goals as goal
 
